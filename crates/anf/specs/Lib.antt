@@ -1,0 +1,5 @@
+-- Normal form.
+pub mod Tests
+pub mod Sums
+pub mod NormalForm
+pub mod Terms

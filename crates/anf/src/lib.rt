@@ -1,0 +1,1 @@
+// Normal form: the passage between a table and its coefficients.

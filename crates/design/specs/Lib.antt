@@ -1,0 +1,3 @@
+-- The design file.
+pub mod Limits
+pub mod Design

@@ -1,0 +1,4 @@
+-- Threshold implementation: sharings, stages, chains.
+pub mod Sharing
+pub mod Stages
+pub mod Chain

@@ -1,0 +1,67 @@
+-- A stage as functions: its components, and what correct, non-complete and uniform mean of them.
+use Prim.Native.Nat.{ℕ, zero, suc, _+_, _*_, _^_, _<_}
+use mathlib.Core.Path.{_≡_}
+use mathlib.Core.Bool.{Bool, true, false, _&&_, not}
+use mathlib.Core.List.{List, [], _∷_}
+use lib.Dec.{eqb}
+use Rattle.anf.specs.Tests.{all, any, count, implies}
+use Rattle.anf.specs.Sums.{xorBelow}
+use Rattle.anf.specs.Terms.{valueAt}
+use Rattle.design.specs.Design.{Stage, entry}
+use Rattle.threshold.specs.Sharing.{share, sum, withShare}
+
+-- the output sharing at σ: bit i is the value of list i
+unfoldable pub output : List (List ℕ) → ℕ → ℕ
+output [] σ = 0
+output (l ∷ ls) σ = output ls σ * 2 + valueAt l σ
+
+-- what component j gives at σ: share j of the output
+abbrev pub component : ℕ → List (List ℕ) → ℕ → ℕ → ℕ
+component w ls j σ = share w j (output ls σ)
+
+-- ---- The three demands, of any component functions F: component j gives F j σ at the sharing σ.
+
+-- correct: for every sharing of every x the components sum to G(x)
+abbrev pub Correct : ℕ → ℕ → (ℕ → ℕ → ℕ) → List ℕ → Type 0
+Correct w s F g = (σ : ℕ) → σ < 2 ^ (w * s) → xorBelow s (λ j. F j σ) ≡ entry g (sum w s σ)
+
+-- a function of a sharing does not depend on share j: no change of that share alone changes it
+abbrev pub Ignores : ℕ → ℕ → ℕ → (ℕ → ℕ) → Type 0
+Ignores w s j f = (σ : ℕ) → σ < 2 ^ (w * s) → (v : ℕ) → v < 2 ^ w → f (withShare w j v σ) ≡ f σ
+
+-- non-complete: component j does not depend on share j
+abbrev pub NonComplete : ℕ → ℕ → (ℕ → ℕ → ℕ) → Type 0
+NonComplete w s F = (j : ℕ) → j < s → Ignores w s j (F j)
+
+-- exactly one number below n has the property
+pub record ExactlyOne (n : ℕ) (P : ℕ → Type 0) : Type 0 where
+  pub the : ℕ
+  pub below : the < n
+  pub has : P the
+  pub only : (i : ℕ) → i < n → P i → i ≡ the
+
+-- uniform: for each x, each sharing of G(x) comes from exactly one sharing of x
+abbrev pub Uniform : ℕ → ℕ → (ℕ → ℕ) → List ℕ → Type 0
+Uniform w s out g =
+    (x : ℕ) → x < 2 ^ w → (τ : ℕ) → τ < 2 ^ (w * s) → sum w s τ ≡ entry g x → ExactlyOne (2 ^ (w * s)) (λ σ. (sum w s σ ≡ x) × (out σ ≡ τ))
+
+-- ---- The same as tests of a stage.
+
+unfoldable pub correct : ℕ → ℕ → Stage → Bool
+correct w s g = all (2 ^ (w * s)) (λ σ. eqb (sum w s (output (g .lists) σ)) (entry (g .table) (sum w s σ)))
+
+-- component j depends on share j
+unfoldable pub readsOwn : ℕ → ℕ → Stage → ℕ → Bool
+readsOwn w s g j =
+    any (2 ^ (w * s)) (λ σ. any (2 ^ w) (λ v. not (eqb (component w (g .lists) j (withShare w j v σ)) (component w (g .lists) j σ))))
+
+unfoldable pub nonComplete : ℕ → ℕ → Stage → Bool
+nonComplete w s g = not (any s (readsOwn w s g))
+
+-- how many sharings of x give the output sharing τ
+unfoldable pub sharingsTo : ℕ → ℕ → Stage → ℕ → ℕ → ℕ
+sharingsTo w s g x τ = count (2 ^ (w * s)) (λ σ. eqb (sum w s σ) x && eqb (output (g .lists) σ) τ)
+
+unfoldable pub uniform : ℕ → ℕ → Stage → Bool
+uniform w s g =
+    all (2 ^ w) (λ x. all (2 ^ (w * s)) (λ τ. implies (eqb (sum w s τ) (entry (g .table) x)) (eqb (sharingsTo w s g x τ) 1)))

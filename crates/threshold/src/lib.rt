@@ -1,0 +1,1 @@
+// Sharings, stages and chains.
