@@ -1,0 +1,132 @@
+/*
+ * Jestrunas: judges threshold-implementation sharings of S-boxes.
+ *
+ * A design file states an S-box S of m bits, s shares for each value and a chain of k stages, each with a table G and
+ * one list of products for every output bit of every component. The library reads such a file, gives a verdict on it,
+ * runs it on given shares, and produces one from a table. Shares, components and stages are numbered from 1, bits and
+ * bytes from 0.
+ *
+ * What a caller owes, for every function here: a pointer and the length after it are a buffer of that many readable
+ * bytes (an output or a workspace: writable too), and no buffer that is written to overlaps another of the same call.
+ * A null pointer with length 0 is an empty buffer. Nothing else is asked: every content, length and number has an answer.
+ *
+ * The library keeps nothing from one call to the next, allocates nothing and may be called from several threads.
+ * Link with target/staticlib/libjestrunas.a (x86-64, System V calling convention).
+ */
+#ifndef JESTRUNAS_H
+#define JESTRUNAS_H
+
+#include <stddef.h>
+#include <stdint.h>
+
+#ifdef __cplusplus
+extern "C" {
+#endif
+
+/* The limits of a design. */
+#define JESTRUNAS_WIDTH_MAX 6       /* m is 1 to 6 */
+#define JESTRUNAS_SHARES_MIN 3      /* s is 3 to 5 */
+#define JESTRUNAS_SHARES_MAX 5
+#define JESTRUNAS_SHARE_BITS_MAX 20 /* m * s is at most 20 */
+#define JESTRUNAS_STAGES_MAX 4      /* k is 1 to 4 */
+#define JESTRUNAS_TERMS_MAX 4096    /* terms in one list */
+
+/* The workspace that a verdict needs for width m and s shares, in bytes: 2^(m * s) / 8. The largest is 131,072. */
+#define JESTRUNAS_WORKSPACE(m, s) (((size_t)1 << ((m) * (s))) / 8)
+#define JESTRUNAS_WORKSPACE_MAX 131072
+
+/* The reasons. Each is given by the operations named after it. */
+#define JESTRUNAS_ACCEPTED 0             /* all: success */
+/* Refusals of reading: read, judge, run. */
+#define JESTRUNAS_CUT_SHORT 1            /* a record's head or its body is cut short */
+#define JESTRUNAS_WRONG_KIND 2           /* a record's kind is not the one due */
+#define JESTRUNAS_WRONG_LENGTH 3         /* a record's length is not the one due; produce, passages: the table's length */
+#define JESTRUNAS_LIMIT_BROKEN 4         /* a head number breaks a limit; produce, passages: m or s does */
+#define JESTRUNAS_ENTRY_TOO_LARGE 5      /* a table entry is 2^m or more; produce, passages: an entry or a word is */
+#define JESTRUNAS_BAD_TERM 6             /* a term names a variable beyond m * s, or does not rise */
+#define JESTRUNAS_BYTES_FOLLOW 7         /* bytes follow the end */
+/* Refusals of the verdict: judge. */
+#define JESTRUNAS_BOX_REPEATS 8          /* S repeats an entry; produce: the table does */
+#define JESTRUNAS_WORKSPACE_TOO_SMALL 9  /* the workspace has fewer than 2^(m * s) / 8 bytes */
+#define JESTRUNAS_CHAIN_IS_NOT_BOX 10    /* the chain of tables is not S */
+#define JESTRUNAS_STAGE_REPEATS 11       /* a G repeats an entry */
+#define JESTRUNAS_NOT_CORRECT 12         /* some sharing's output shares do not sum to G */
+#define JESTRUNAS_NOT_NON_COMPLETE 13    /* a component depends on the share of its own number */
+#define JESTRUNAS_NOT_UNIFORM 14         /* the sharings of some G(x) do not each come from one sharing of x */
+/* Refusals of the other operations. */
+#define JESTRUNAS_BAD_SHARE 15           /* run: a used share is 2^m or more, or an unused one is not 0 */
+#define JESTRUNAS_DEGREE_TOO_HIGH 16     /* produce: the degree is s or more */
+#define JESTRUNAS_OUTPUT_TOO_SHORT 17    /* produce, passages: the result does not fit the lent output */
+#define JESTRUNAS_INPUT_TOO_LONG 18      /* the verdict program only: its input exceeds 32,768 bytes */
+
+/*
+ * The answer of reading and of the verdict.
+ * Reasons 1 to 7: place is the first byte of the record at fault (for 7, the first byte after the end), component 0.
+ * Reasons 8, 9, 10: 0, 0. Reasons 11 to 14: place is the stage; component is 0 but for 13.
+ */
+typedef struct {
+    size_t reason;
+    size_t place;
+    size_t component;
+} jestrunas_verdict_t;
+
+/* A sharing: share j at share[j - 1], those after s zero. */
+typedef struct {
+    uint8_t share[JESTRUNAS_SHARES_MAX];
+} jestrunas_shares_t;
+
+/* The answer of a run. */
+typedef struct {
+    size_t reason;
+    jestrunas_shares_t shares;
+} jestrunas_run_t;
+
+/* The answer of producing. */
+typedef struct {
+    size_t reason;
+    size_t length;
+} jestrunas_produced_t;
+
+/*
+ * Reads a design file. Answers 0, 0, 0 when it reads, otherwise the first fault in file order (1 to 7).
+ * The file is only read.
+ */
+jestrunas_verdict_t jestrunas_read(const uint8_t *file, size_t file_len);
+
+/*
+ * The verdict on a design file: 0, k, 0 exactly when the file reads, S is a permutation, the workspace is enough, the
+ * chain of tables is S, and every stage is correct, non-complete and uniform; otherwise the first fault (1 to 14).
+ * With reasons 1 to 9 the workspace is untouched; otherwise its first 2^(m * s) / 8 bytes are zero afterwards and the
+ * rest is untouched. It may hold anything before. The file is only read.
+ */
+jestrunas_verdict_t jestrunas_judge(const uint8_t *file, size_t file_len, uint8_t *workspace, size_t workspace_len);
+
+/*
+ * Runs the chain of a design file on the given shares. Answers 0 and the output shares of the last stage, unused ones
+ * zero; or a reading's reason (1 to 7) or 15, and five zeros. No verdict is taken. The file is only read.
+ */
+jestrunas_run_t jestrunas_run(const uint8_t *file, size_t file_len, jestrunas_shares_t shares);
+
+/*
+ * Writes the direct sharing of a table in s shares as a design file of one stage. Answers 0 and the file's length,
+ * the bytes past it untouched; or 4, 3, 5, 8, 16 or 17, tested in this order, and length 0, the output untouched.
+ * What is produced reads, is correct and non-complete: its verdict is 0 or 14. 16,583 bytes of output are always enough.
+ */
+jestrunas_produced_t jestrunas_produce(size_t m, size_t s, const uint8_t *table, size_t table_len, uint8_t *output,
+                                       size_t output_len);
+
+/*
+ * The coefficient words of a table's algebraic normal form: the word at set u is the sum (XOR) of the entries at all
+ * subsets of u. Answers 0 and writes the first 2^m output bytes only; or 4, 3, 5 or 17, tested in this order, the
+ * output untouched.
+ */
+size_t jestrunas_to_coefficients(size_t m, const uint8_t *input, size_t input_len, uint8_t *output, size_t output_len);
+
+/* The table that coefficient words stand for: the way back, with the same answers and promises. */
+size_t jestrunas_to_table(size_t m, const uint8_t *input, size_t input_len, uint8_t *output, size_t output_len);
+
+#ifdef __cplusplus
+}
+#endif
+
+#endif
