@@ -1,0 +1,429 @@
+//! Compares the library with the second implementation: every answer, and every lent byte afterwards.
+//!
+//!     compare [FILES [SEED]]
+//!
+//! FILES is the number of generated files, 200,000 unless said. The last lines count what was compared; the exit
+//! status is 1 at a difference (printed with the file and both answers), or where a reason never occurred.
+
+mod lent;
+mod make;
+mod random;
+
+use jestrunas::native;
+use lent::Lent;
+use make::{D, SIZES};
+use random::Random;
+use reference::{encode, Answer, Design, Shares};
+use std::fmt::Debug;
+use std::time::Instant;
+
+fn hex(bytes: &[u8]) -> String {
+    bytes.iter().map(|byte| format!("{byte:02x}")).collect::<Vec<_>>().join(" ")
+}
+
+/// Counts of the reasons that an operation answered.
+#[derive(Default)]
+struct Counts {
+    by_reason: [usize; 19],
+}
+
+impl Counts {
+    fn add(&mut self, reason: usize) {
+        self.by_reason[reason] += 1;
+    }
+
+    fn total(&self) -> usize {
+        self.by_reason.iter().sum()
+    }
+
+    fn say(&self, what: &str, due: &[usize]) -> bool {
+        let seen: Vec<String> = (0..19).filter(|&r| self.by_reason[r] > 0 || due.contains(&r)).map(|r| format!("{r}:{}", self.by_reason[r])).collect();
+        println!("{what}: {} calls, by reason {}", self.total(), seen.join(" "));
+        let missing: Vec<&usize> = due.iter().filter(|&&r| self.by_reason[r] == 0).collect();
+        if !missing.is_empty() {
+            println!("{what}: never answered {missing:?}");
+        }
+        missing.is_empty()
+    }
+}
+
+struct Comparison {
+    random: Random,
+    file: Lent,
+    lent: Lent,
+    files: usize,
+    readable: usize,
+    differences: usize,
+    sizes: [[usize; 4]; 15],
+    reads: Counts,
+    verdicts: Counts,
+    runs: Counts,
+    produced: Counts,
+    passages: Counts,
+}
+
+impl Comparison {
+    fn new(seed: u64) -> Comparison {
+        Comparison {
+            random: Random::new(seed),
+            file: Lent::new(2_000_000),
+            lent: Lent::new(200_000),
+            files: 0,
+            readable: 0,
+            differences: 0,
+            sizes: [[0; 4]; 15],
+            reads: Counts::default(),
+            verdicts: Counts::default(),
+            runs: Counts::default(),
+            produced: Counts::default(),
+            passages: Counts::default(),
+        }
+    }
+
+    fn differs(&mut self, what: &str, input: &[u8], library: impl Debug, second: impl Debug) {
+        println!("DIFFERENCE: {what}");
+        println!("  input {}", hex(input));
+        println!("  library {library:?}");
+        println!("  second  {second:?}");
+        self.differences += 1;
+        if self.differences == 5 {
+            println!("five differences: stopped after {} files", self.files);
+            std::process::exit(1);
+        }
+    }
+
+    /// A verdict in a workspace of this length, which holds anything before.
+    fn judge(&mut self, file: &[u8], due: Answer, design: Option<&Design>, length: usize) {
+        let mut workspace = self.random.bytes(length);
+        self.lent.put(&workspace, self.random.once_in(2));
+        let v = native::judge(self.file.slice(), self.lent.slice());
+        let answer = [v.reason, v.place, v.component];
+        if let (10..=14 | 0, Some(design)) = (due[0], design) {
+            workspace[..(1 << (design.m * design.s)) / 8].fill(0);
+        }
+        if answer != due {
+            self.differs(&format!("judge, workspace of {length}"), file, answer, due);
+        }
+        if !self.lent.is(&workspace) {
+            let now = self.lent.slice().to_vec();
+            self.differs(&format!("judge, bytes of a workspace of {length}"), file, hex(&now), hex(&workspace));
+        }
+        self.verdicts.add(due[0]);
+    }
+
+    fn run(&mut self, file: &[u8], shares: Shares) {
+        let r = native::run(self.file.slice(), shares);
+        let answer = (r.reason, r.shares.share);
+        let due = reference::run(file, shares);
+        if answer != due {
+            self.differs(&format!("run on {shares:?}"), file, answer, due);
+        }
+        self.runs.add(due.0);
+    }
+
+    /// Everything that is asked about a file.
+    fn compare_file(&mut self, file: &[u8]) {
+        self.files += 1;
+        let at_end = !self.random.once_in(4);
+        self.file.put(file, at_end);
+
+        let meaning = reference::read(file);
+        let due = meaning.as_ref().map_or_else(|fault| [fault.reason, fault.place, 0], |_| [0, 0, 0]);
+        let r = native::read(self.file.slice());
+        if [r.reason, r.place, r.component] != due {
+            self.differs("read", file, r, due);
+        }
+        self.reads.add(due[0]);
+
+        match &meaning {
+            Err(_) => {
+                let length = self.random.below(20);
+                self.judge(file, due, None, length);
+                if self.random.once_in(4) {
+                    let shares = [0; 5].map(|_: u8| self.random.below(4) as u8);
+                    self.run(file, shares);
+                }
+            }
+            Ok(design) => {
+                self.readable += 1;
+                let (m, s) = (design.m, design.s);
+                self.sizes[SIZES.iter().position(|&size| size == (m, s)).expect("within the limits")][design.stages.len() - 1] += 1;
+                if encode(design) != file {
+                    self.differs("one meaning has one file", file, "", hex(&encode(design)));
+                }
+                let enough = (1 << (m * s)) / 8;
+                let full = reference::verdict(design, enough);
+                let more = enough + self.random.below(3) * self.random.below(40);
+                self.judge(file, full, Some(design), more);
+                if self.random.once_in(4) {
+                    let fewer = self.random.below(enough.min(40)) + 1;
+                    let fewer = if self.random.once_in(4) { 0 } else { enough - fewer };
+                    let due = reference::verdict(design, fewer);
+                    self.judge(file, due, Some(design), fewer);
+                }
+                for _ in 0..2 {
+                    let mut shares = [0; 5];
+                    for share in &mut shares[..s] {
+                        *share = self.random.below(1 << m) as u8;
+                    }
+                    if self.random.once_in(6) {
+                        let j = self.random.below(5);
+                        shares[j] = self.random.pick(&[1, 1 << m, (1 << m) + 1, 128, 255]);
+                    }
+                    self.run(file, shares);
+                    if full[0] == 0 && self.runs_sum_wrong(design, file, shares) {
+                        self.differs("an accepted run sums to S", file, shares, "");
+                    }
+                }
+            }
+        }
+        if !self.file.is(file) {
+            let now = self.file.slice().to_vec();
+            self.differs("the file is only read", file, hex(&now), "");
+        }
+    }
+
+    /// Where a run answers 0, whether its output shares fail to sum to S of the sum of the given ones.
+    fn runs_sum_wrong(&mut self, design: &Design, file: &[u8], shares: Shares) -> bool {
+        let (reason, out) = reference::run(file, shares);
+        let sum = |shares: Shares| shares.iter().fold(0, |sum, share| sum ^ share);
+        reason == 0 && sum(out) != design.table[usize::from(sum(shares))]
+    }
+
+    fn compare_produce(&mut self, m: usize, s: usize, table: &[u8], length: usize) -> Option<Vec<u8>> {
+        let before = self.random.bytes(length);
+        self.lent.put(&before, self.random.once_in(2));
+        self.file.put(table, self.random.once_in(2));
+        let p = native::produce(m, s, self.file.slice(), self.lent.slice());
+        let mut after = before;
+        let due = reference::produce(m, s, table, &mut after);
+        if (p.reason, p.length) != due {
+            self.differs(&format!("produce {m} {s}, output of {length}"), table, p, due);
+        }
+        if !self.lent.is(&after) || !self.file.is(table) {
+            let now = self.lent.slice().to_vec();
+            self.differs(&format!("produce {m} {s}, bytes of an output of {length}"), table, hex(&now), hex(&after));
+        }
+        self.produced.add(due.0);
+        after.truncate(due.1);
+        (due.0 == 0).then_some(after)
+    }
+
+    /// Producing with numbers, tables and outputs that are mostly good.
+    fn produce(&mut self) -> Option<Vec<u8>> {
+        let random = &mut self.random;
+        let (mut m, mut s) = make::size(random);
+        let mut table = if random.once_in(3) { make::permutation(random, m) } else { make::shareable(random, m, s) };
+        let mut length = 16_583;
+        match random.below(12) {
+            0 => m = random.pick(&[0, 7, 8, 20, 64, 255, 256, 1 << 32, usize::MAX, m + 256]),
+            1 => s = random.pick(&[0, 1, 2, 6, 7, 64, 255, 256, 1 << 32, usize::MAX, s + 256]),
+            2 => (m, s) = (random.below(9), random.below(8)),
+            3 => table.truncate(random.below(table.len())),
+            4 => {
+                let n = random.pick(&[1, 2, 64, table.len()]);
+                table.extend(random.bytes(n));
+            }
+            5 => {
+                let i = random.below(table.len());
+                table[i] = random.byte();
+            }
+            6 => table = (0..table.len()).map(|_| random.below(1 << m) as u8).collect(),
+            7 => {
+                // an output near the length that the file has
+                let (_, exact) = reference::produce(m, s, &table, &mut vec![0; 16_583]);
+                length = (exact + 2).saturating_sub(random.below(5));
+            }
+            8 => length = random.below(60),
+            _ => {}
+        }
+        self.compare_produce(m, s, &table, length)
+    }
+
+    /// Both passages, with numbers, words and outputs that are mostly good, and there and back.
+    fn passages(&mut self) {
+        let random = &mut self.random;
+        let mut m = 1 + random.below(6);
+        let mut words: Vec<u8> = (0..1 << m).map(|_| random.below(1 << m) as u8).collect();
+        let mut length = words.len() + random.below(3) * random.below(9);
+        match random.below(12) {
+            0 => m = random.pick(&[0, 7, 8, 9, 64, 255, 256, 1 << 32, usize::MAX, m + 256]),
+            1 => m = random.below(9),
+            2 => words.truncate(random.below(words.len())),
+            3 => {
+                let n = 1 + random.below(70);
+                words.extend(random.bytes(n));
+            }
+            4 | 5 => {
+                let i = random.below(words.len());
+                words[i] = random.byte();
+            }
+            6 => length = random.below(words.len()),
+            _ => {}
+        }
+        let before = self.random.bytes(length);
+        for back in [false, true] {
+            self.lent.put(&before, self.random.once_in(2));
+            self.file.put(&words, self.random.once_in(2));
+            let mut after = before.clone();
+            let (answer, due) = if back {
+                (native::to_table(m, self.file.slice(), self.lent.slice()), reference::to_table(m, &words, &mut after))
+            } else {
+                (native::to_coefficients(m, self.file.slice(), self.lent.slice()), reference::to_coefficients(m, &words, &mut after))
+            };
+            let name = if back { "to table" } else { "to coefficients" };
+            if answer != due {
+                self.differs(&format!("{name} {m}, output of {length}"), &words, answer, due);
+            }
+            if !self.lent.is(&after) || !self.file.is(&words) {
+                let now = self.lent.slice().to_vec();
+                self.differs(&format!("{name} {m}, bytes of an output of {length}"), &words, hex(&now), hex(&after));
+            }
+            self.passages.add(due);
+        }
+    }
+
+    /// Every length of cut of D and of a produced design, and every single byte of D changed.
+    fn cuts(&mut self) {
+        let mut box3 = vec![0; 16_583];
+        let (_, length) = reference::produce(3, 3, &[0, 1, 2, 3, 4, 5, 7, 6], &mut box3);
+        box3.truncate(length);
+        for whole in [&D[..], &box3] {
+            for length in 0..=whole.len() {
+                self.compare_file(&whole[..length]);
+            }
+        }
+        for at in 0..D.len() {
+            for value in 0..=255 {
+                let mut file = D;
+                file[at] = value;
+                self.compare_file(&file);
+            }
+        }
+        for (m, s) in [(4, 3), (6, 3), (5, 4)] {
+            for terms in [4095, 4096, 4097] {
+                let file = make::long_list(&mut self.random, m, s, terms);
+                self.compare_file(&file);
+                self.compare_file(&file[..file.len() / 2]);
+            }
+        }
+    }
+
+    /// Workspaces of every length near the one that a head asks for.
+    fn workspaces(&mut self) {
+        for (m, s) in SIZES {
+            let enough: usize = (1 << (m * s)) / 8;
+            let accepted = make::identity(m, s, 1);
+            let mut other_box = accepted.clone();
+            other_box.table.reverse();
+            let mut wrong = accepted.clone();
+            wrong.stages[0].components[0][0].clear();
+            let mut repeating = accepted.clone();
+            repeating.table[0] = repeating.table[1];
+            for design in [accepted, other_box, wrong, repeating] {
+                let file = encode(&design);
+                self.file.put(&file, true);
+                self.files += 1;
+                self.readable += 1;
+                let full = reference::verdict(&design, enough);
+                for length in enough.saturating_sub(9)..enough + 10 {
+                    let large = m * s > 16 && full[0] == 0 && length.abs_diff(enough) > 1;
+                    if !large {
+                        let due = if length < enough { reference::verdict(&design, length) } else { full };
+                        self.judge(&file, due, Some(&design), length);
+                    }
+                }
+                self.judge(&file, full, Some(&design), 131_072);
+            }
+        }
+    }
+
+    /// Accepted designs of the larger sizes, each m, s and k at least once, judged whole.
+    fn large(&mut self) {
+        for (m, s) in SIZES {
+            for k in 1..=4 {
+                let costly = m * s > 16 && k != 1 + (m + s) % 2;
+                if !costly {
+                    self.compare_file(&encode(&make::identity(m, s, k)));
+                }
+            }
+        }
+        let present_like = [0, 1, 2, 3, 4, 5, 6, 7, 8, 9, 10, 11, 12, 13, 15, 14];
+        for s in [4, 5] {
+            let file = self.compare_produce(4, s, &present_like, 16_583);
+            self.compare_file(&file.expect("degree 3"));
+        }
+    }
+
+    fn generated(&mut self, files: usize) {
+        while self.files < files {
+            let base = match self.random.below(40) {
+                0..=29 => {
+                    let (m, s) = make::size(&mut self.random);
+                    let k = if m * s > 12 { 1 + self.random.below(2) * self.random.below(4) } else { 1 + self.random.below(4) };
+                    // at the largest sizes only designs that are refused at once, but for those of `large`
+                    if m * s > 16 {
+                        let mut design = make::identity(m, s, k);
+                        design.table = make::permutation(&mut self.random, m);
+                        encode(&design)
+                    } else {
+                        encode(&make::design(&mut self.random, m, s, k))
+                    }
+                }
+                30..=36 => match self.produce() {
+                    Some(file) if file[4] * file[5] <= 16 => file,
+                    _ => continue,
+                },
+                _ => {
+                    let file = make::noise(&mut self.random);
+                    self.compare_file(&file);
+                    continue;
+                }
+            };
+            self.compare_file(&base);
+            let large = base[4] * base[5] > 12;
+            for _ in 0..if large { 2 } else { 3 } {
+                let mut file = make::damaged(&mut self.random, &base);
+                if self.random.once_in(5) && reference::read(&file).is_ok() {
+                    file = make::damaged(&mut self.random, &file);
+                }
+                self.compare_file(&file);
+            }
+            self.passages();
+            if self.random.once_in(2) {
+                self.produce();
+            }
+        }
+    }
+}
+
+fn main() {
+    let mut arguments = std::env::args().skip(1);
+    let files = arguments.next().map_or(200_000, |n| n.replace(['_', ','], "").parse().expect("FILES is a number"));
+    let seed = arguments.next().map_or(20_261_115, |n| n.parse().expect("SEED is a number"));
+    let start = Instant::now();
+    let mut c = Comparison::new(seed);
+    c.cuts();
+    c.workspaces();
+    c.large();
+    println!("cuts, workspaces and large designs: {} files, {:.1} s", c.files, start.elapsed().as_secs_f64());
+    c.generated(files);
+
+    let mut complete = true;
+    for (i, (m, s)) in SIZES.iter().enumerate() {
+        if c.sizes[i][0] == 0 || (m * s <= 16 && c.sizes[i].contains(&0)) {
+            println!("too few designs of m {m}, s {s}: {:?} by k", c.sizes[i]);
+            complete = false;
+        }
+    }
+    complete &= c.reads.say("read", &[0, 1, 2, 3, 4, 5, 6, 7]);
+    // 11 cannot occur: a chain of tables that equals a permutation is made of permutations.
+    complete &= c.verdicts.say("judge", &[0, 1, 2, 3, 4, 5, 6, 7, 8, 9, 10, 12, 13, 14]);
+    complete &= c.runs.say("run", &[0, 1, 2, 3, 4, 5, 6, 7, 15]);
+    complete &= c.produced.say("produce", &[0, 3, 4, 5, 8, 16, 17]);
+    complete &= c.passages.say("passages", &[0, 3, 4, 5, 17]);
+    println!("seed {seed}: {} files ({} readable), {} differences, {:.1} s", c.files, c.readable, c.differences, start.elapsed().as_secs_f64());
+    if c.differences > 0 || !complete {
+        std::process::exit(1);
+    }
+}

@@ -1,0 +1,146 @@
+//! The verdict and running a chain.
+
+use crate::design::{read, Design, Shares, Stage};
+use crate::{repeats, Answer};
+
+fn sum(shares: &Shares) -> u8 {
+    shares.iter().fold(0, |sum, share| sum ^ share)
+}
+
+/// Calls a function at every choice of values below 2^m for the shares listed (from 0), the others staying as they are,
+/// until it answers false. Answers whether it never did.
+fn every_choice(m: usize, free: &[usize], shares: &mut Shares, test: &mut impl FnMut(&Shares) -> bool) -> bool {
+    let Some((&share, rest)) = free.split_first() else { return test(shares) };
+    for value in 0..1 << m {
+        shares[share] = value;
+        if !every_choice(m, rest, shares, test) {
+            return false;
+        }
+    }
+    true
+}
+
+/// Calls a function at every sharing of x until it answers false: s - 1 shares are free, and the last makes up the sum.
+fn every_sharing(m: usize, s: usize, x: u8, mut test: impl FnMut(&Shares) -> bool) -> bool {
+    let free: Vec<usize> = (0..s - 1).collect();
+    every_choice(m, &free, &mut [0; 5], &mut |chosen: &Shares| {
+        let mut shares = *chosen;
+        shares[s - 1] = 0;
+        shares[s - 1] = x ^ sum(&shares);
+        test(&shares)
+    })
+}
+
+/// The outputs of a stage at all sharings, kept so that each is computed once.
+struct Outputs<'a> {
+    stage: &'a Stage,
+    m: usize,
+    known: Vec<Option<Shares>>,
+}
+
+impl<'a> Outputs<'a> {
+    fn of(stage: &'a Stage, m: usize, s: usize) -> Outputs<'a> {
+        Outputs { stage, m, known: vec![None; 1 << (m * s)] }
+    }
+
+    fn at(&mut self, shares: &Shares) -> Shares {
+        let place = shares.iter().fold(0, |place, &share| place << self.m | usize::from(share)) >> (self.m * (5 - self.stage.components.len()));
+        *self.known[place].get_or_insert_with(|| self.stage.output(shares))
+    }
+}
+
+/// For every sharing of every x the components sum to G(x).
+fn correct(m: usize, s: usize, outputs: &mut Outputs) -> bool {
+    (0..1 << m).all(|x| {
+        let due = outputs.stage.table[usize::from(x)];
+        every_sharing(m, s, x, |shares| sum(&outputs.at(shares)) == due)
+    })
+}
+
+/// Some change of share j alone changes the output of component j.
+fn depends_on_own(m: usize, s: usize, j: usize, outputs: &mut Outputs) -> bool {
+    let others: Vec<usize> = (0..s).filter(|&share| share != j).collect();
+    let ignored = every_choice(m, &others, &mut [0; 5], &mut |setting: &Shares| {
+        let mut shares = *setting;
+        shares[j] = 0;
+        let first = outputs.at(&shares)[j];
+        (1..1 << m).all(|value| {
+            shares[j] = value;
+            outputs.at(&shares)[j] == first
+        })
+    });
+    !ignored
+}
+
+/// For each x, each sharing of G(x) comes from exactly one sharing of x. The stage is known to be correct, so that the
+/// outputs are sharings of G(x), each given by its first s - 1 shares.
+fn uniform(m: usize, s: usize, outputs: &mut Outputs) -> bool {
+    (0..1 << m).all(|x| {
+        let mut comes_from = vec![0usize; 1 << (m * (s - 1))];
+        every_sharing(m, s, x, |shares| {
+            let output = outputs.at(shares);
+            let place = output[..s - 1].iter().fold(0, |place, &share| place << m | usize::from(share));
+            comes_from[place] += 1;
+            true
+        });
+        comes_from.iter().all(|&times| times == 1)
+    })
+}
+
+/// The verdict on a design that was read, in a workspace of a given length.
+pub fn verdict(design: &Design, workspace: usize) -> Answer {
+    let Design { m, s, table, stages } = design;
+    let (m, s) = (*m, *s);
+    if repeats(table) {
+        return [8, 0, 0];
+    }
+    if workspace < (1 << (m * s)) / 8 {
+        return [9, 0, 0];
+    }
+    let through = |x: u8| stages.iter().fold(x, |x, stage| stage.table[usize::from(x)]);
+    if (0..1 << m).any(|x| through(x) != table[usize::from(x)]) {
+        return [10, 0, 0];
+    }
+    if let Some(i) = stages.iter().position(|stage| repeats(&stage.table)) {
+        return [11, i + 1, 0];
+    }
+    for (i, stage) in stages.iter().enumerate() {
+        let mut outputs = Outputs::of(stage, m, s);
+        if !correct(m, s, &mut outputs) {
+            return [12, i + 1, 0];
+        }
+        if let Some(j) = (0..s).find(|&j| depends_on_own(m, s, j, &mut outputs)) {
+            return [13, i + 1, j + 1];
+        }
+        if !uniform(m, s, &mut outputs) {
+            return [14, i + 1, 0];
+        }
+    }
+    [0, stages.len(), 0]
+}
+
+/// The verdict on a file; the workspace becomes what the papers say it is afterwards.
+pub fn judge(file: &[u8], workspace: &mut [u8]) -> Answer {
+    let design = match read(file) {
+        Ok(design) => design,
+        Err(fault) => return [fault.reason, fault.place, 0],
+    };
+    let answer = verdict(&design, workspace.len());
+    if !(1..=9).contains(&answer[0]) {
+        workspace[..(1 << (design.m * design.s)) / 8].fill(0);
+    }
+    answer
+}
+
+/// Runs a chain: the number, and the output shares.
+pub fn run(file: &[u8], shares: Shares) -> (usize, Shares) {
+    let design = match read(file) {
+        Ok(design) => design,
+        Err(fault) => return (fault.reason, [0; 5]),
+    };
+    let (used, unused) = shares.split_at(design.s);
+    if used.iter().any(|&share| share >> design.m != 0) || unused.iter().any(|&share| share != 0) {
+        return (15, [0; 5]);
+    }
+    (0, design.stages.iter().fold(shares, |shares, stage| stage.output(&shares)))
+}

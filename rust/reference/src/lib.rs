@@ -1,0 +1,26 @@
+//! A second implementation of the published operations, written from the papers alone and by brute force, so that it
+//! can be compared with the proved library. Nothing here is clever: a design is parsed into plain structures, a
+//! component is a function that is called at every sharing, and each property is tested as the papers word it.
+
+mod design;
+mod judge;
+mod passage;
+mod produce;
+
+pub use design::{encode, read, Design, Fault, Product, Shares, Stage};
+pub use judge::{judge, run, verdict};
+pub use passage::{to_coefficients, to_table};
+pub use produce::{direct_sharing, produce};
+
+/// A verdict: reason, place, component.
+pub type Answer = [usize; 3];
+
+/// Whether m and s keep the limits that a head fixes.
+pub fn within_limits(m: usize, s: usize) -> bool {
+    (1..=6).contains(&m) && (3..=5).contains(&s) && m * s <= 20
+}
+
+/// Whether some entry of a table stands there twice.
+pub fn repeats(table: &[u8]) -> bool {
+    (1..table.len()).any(|i| table[..i].contains(&table[i]))
+}
