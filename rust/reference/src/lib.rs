@@ -6,6 +6,7 @@ mod design;
 mod judge;
 mod passage;
 mod produce;
+pub mod samples;
 
 pub use design::{encode, read, Design, Fault, Product, Shares, Stage};
 pub use judge::{judge, run, verdict};

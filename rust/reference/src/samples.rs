@@ -1,0 +1,89 @@
+//! Designs that the tests, the sample files and the benchmark share.
+
+use crate::design::{Design, Product, Stage};
+use crate::produce::direct_sharing;
+
+/// PRESENT's S-box is F after G, both quadratic (Poschmann, Moradi, Khoo, Lim, Wang and Ling, "Side-channel resistant
+/// crypto for less than 2,300 GE").
+pub const PRESENT: [u8; 16] = [12, 5, 6, 11, 9, 0, 10, 13, 3, 14, 15, 8, 4, 7, 1, 2];
+pub const PRESENT_G: [u8; 16] = [7, 14, 9, 2, 11, 0, 4, 13, 5, 12, 10, 1, 8, 3, 6, 15];
+pub const PRESENT_F: [u8; 16] = [0, 8, 11, 7, 10, 3, 1, 12, 4, 6, 15, 9, 14, 13, 5, 2];
+
+/// Keccak's map of a row: y_i = x_i + (x_(i+1) + 1) x_(i+2), indices modulo 5.
+pub fn keccak_row() -> Vec<u8> {
+    (0..32u8).map(|x| (0..5).map(|i| ((x >> i) ^ (!(x >> ((i + 1) % 5)) & x >> ((i + 2) % 5))) & 1) .enumerate().fold(0, |y, (i, bit)| y | bit << i)).collect()
+}
+
+/// A quadratic permutation of 6 bits: to the three low bits the products of two high bits are added.
+pub fn six_bits() -> Vec<u8> {
+    (0..64u8).map(|x| {
+        let (a, b, c) = (x >> 3 & 1, x >> 4 & 1, x >> 5 & 1);
+        x ^ (a & b) ^ (b & c) << 1 ^ (a & c) << 2
+    }).collect()
+}
+
+/// The map 0123456789ABCDFE, of degree 3.
+pub fn cubic() -> Vec<u8> {
+    (0..14).chain([15, 14]).collect()
+}
+
+/// A chain of tables, each shared directly; S is what they give together.
+pub fn chain(m: usize, s: usize, tables: &[&[u8]]) -> Design {
+    let table = (0..1 << m).map(|x| tables.iter().fold(x, |x: u8, table| table[usize::from(x)])).collect();
+    Design { m, s, table, stages: tables.iter().map(|table| direct_sharing(m, s, table)).collect() }
+}
+
+/// D of the papers: one bit in three shares, lists {2}, {4}, {1}.
+pub fn d() -> Design {
+    chain(1, 3, &[&[0, 1]])
+}
+
+/// One stage of one bit in three shares, S and G the identity, with these lists of terms.
+pub fn one_bit(lists: [&[u32]; 3]) -> Design {
+    let list = |terms: &[u32]| vec![terms.iter().map(|&term| Product::from_number(term, 1, 3).expect("three variables")).collect()];
+    Design { m: 1, s: 3, table: vec![0, 1], stages: vec![Stage { table: vec![0, 1], components: lists.map(list).to_vec() }] }
+}
+
+/// The box 01234576 in three shares with the product of bit 1 and bit 2 of share 2 in component 2 and not in 1.
+pub fn leaking() -> Design {
+    let mut design = chain(3, 3, &[&[0, 1, 2, 3, 4, 5, 7, 6]]);
+    let product = Product::of(&[0, 0b110, 0, 0, 0]);
+    let components = &mut design.stages[0].components;
+    components[0][0].retain(|&p| p != product);
+    components[1][0].push(product);
+    design
+}
+
+/// A design whose file is the largest readable one of up to 32,768 bytes: 32,767, as every readable file has an odd
+/// length. Four bits, four shares, four stages of the identity: components 1 and 2 are shares 2 and 1, components 3 and 4
+/// are shares 4 and 3, and to the latter two the same products of shares 1 and 2 are added until the file is full.
+pub fn full() -> Design {
+    let table: Vec<u8> = (0..16).collect();
+    let variable = |share: usize, bit: usize| {
+        let mut factors = [0; 5];
+        factors[share] = 1 << bit;
+        Product::of(&factors)
+    };
+    let component = |share: usize| (0..4).map(|bit| vec![variable(share, bit)]).collect();
+    let stage = Stage { table: table.clone(), components: [1, 0, 3, 2].map(component).to_vec() };
+    let mut design = Design { m: 4, s: 4, table, stages: vec![stage; 4] };
+    let mut pairs = (32_767 - crate::encode(&design).len()) / 8;
+    for place in 0..1024 {
+        let (bit, product) = (place / 256, place % 256);
+        let product = Product::of(&[product as u8 & 15, product as u8 >> 4, 0, 0, 0]);
+        for stage in &mut design.stages {
+            if pairs > 0 {
+                stage.components[2][bit].push(product);
+                stage.components[3][bit].push(product);
+                pairs -= 1;
+            }
+        }
+    }
+    design
+}
+
+/// Four bits in five shares, 20 share bits, in four stages: the steps of a generalised Feistel network.
+pub fn twenty_share_bits() -> Design {
+    let step = |to: usize, a: usize, b: usize| -> Vec<u8> { (0..16u8).map(|x| x ^ (x >> a & x >> b & 1) << to).collect() };
+    chain(4, 5, &[&step(0, 2, 3), &step(1, 2, 3), &step(2, 0, 1), &step(3, 0, 1)])
+}

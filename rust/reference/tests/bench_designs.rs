@@ -1,0 +1,116 @@
+//! The bench designs of the papers, with the answers that the papers give.
+
+use reference::samples::{chain, cubic, d, full, keccak_row, leaking, one_bit, six_bits, twenty_share_bits, PRESENT, PRESENT_F, PRESENT_G};
+use reference::{encode, judge, produce, read, repeats, run, to_coefficients, to_table, Answer};
+
+const D: [u8; 47] = [
+    3, 0, 1, 0, 1, 3, 1, 2, 0, 2, 0, 0, 1, 2, 0, 2, 0, 0, 1, 4, 0, 3, 0, 2, 0, 0, 0, 4, 0, 3, 0, 4, 0, 0, 0, 4, 0, 3, 0, 1, 0, 0, 0,
+    0, 0, 4, 0,
+];
+
+fn verdict(file: &[u8]) -> Answer {
+    judge(file, &mut [0xff; 131_072])
+}
+
+fn produced(m: usize, s: usize, table: &[u8]) -> Result<Vec<u8>, usize> {
+    let mut output = vec![0; 16_583];
+    let (reason, length) = produce(m, s, table, &mut output);
+    output.truncate(length);
+    if reason == 0 { Ok(output) } else { Err(reason) }
+}
+
+fn digits(text: &str) -> Vec<u8> {
+    text.chars().map(|c| c.to_digit(16).unwrap() as u8).collect()
+}
+
+#[test]
+fn d_and_its_neighbours() {
+    assert_eq!(encode(&d()), D);
+    assert_eq!(encode(&one_bit([&[2], &[4], &[1]])), D);
+    assert_eq!(verdict(&D), [0, 1, 0]);
+    assert_eq!(verdict(&encode(&one_bit([&[2], &[4], &[]]))), [12, 1, 0]);
+    assert_eq!(verdict(&encode(&one_bit([&[1], &[2], &[4]]))), [13, 1, 1]);
+    assert_eq!(verdict(&encode(&one_bit([&[2, 4], &[1], &[]]))), [14, 1, 0]);
+    let with_box = |table: [u8; 2]| {
+        let mut file = D;
+        file[11..13].copy_from_slice(&table);
+        file
+    };
+    assert_eq!(verdict(&with_box([1, 0])), [10, 0, 0]);
+    assert_eq!(verdict(&with_box([0, 0])), [8, 0, 0]);
+    assert_eq!(judge(&with_box([0, 0]), &mut []), [8, 0, 0]);
+    assert_eq!(judge(&D, &mut []), [9, 0, 0]);
+    assert_eq!(judge(&D, &mut [7]), [0, 1, 0]);
+    assert_eq!(run(&D, [1, 0, 0, 0, 0]), (0, [0, 0, 1, 0, 0]));
+    assert_eq!(run(&D, [2, 0, 0, 0, 0]), (15, [0; 5]));
+}
+
+#[test]
+fn the_workspace_afterwards() {
+    let mut workspace = [9; 3];
+    assert_eq!(judge(&D, &mut workspace), [0, 1, 0]);
+    assert_eq!(workspace, [0, 9, 9]);
+}
+
+#[test]
+fn heads() {
+    let head = |m, s| verdict(&[3, 0, 1, 0, m, s, 1]);
+    assert_eq!(head(4, 5), [1, 7, 0]);
+    for (m, s) in [(5, 5), (6, 4), (4, 2)] {
+        assert_eq!(head(m, s), [4, 0, 0]);
+    }
+}
+
+#[test]
+fn long_lists() {
+    // four bits, three shares: the first list has all 4,096 terms
+    let identity: Vec<u8> = (0..16).collect();
+    let mut design = chain(4, 3, &[&identity[..]]);
+    let all = (0..4096).map(|number| reference::Product::from_number(number, 4, 3).unwrap()).collect();
+    design.stages[0].components[0][0] = all;
+    let file = encode(&design);
+    assert!(read(&file).is_ok());
+    assert_eq!(verdict(&file)[0], 12);
+    let mut longer = file[..47].to_vec();
+    longer.extend([0x04, 0x40, 3, 0]);
+    longer.extend([0; 16_388]);
+    assert_eq!(verdict(&longer), [3, 47, 0]);
+    // a wrong kind and a body that is cut: the kind comes first
+    assert_eq!(verdict(&[3, 0, 2, 0, 1]), [2, 0, 0]);
+}
+
+#[test]
+fn producing() {
+    let file = produced(1, 3, &[1, 0]).unwrap();
+    assert_eq!(file.len(), 51);
+    let lists: Vec<Vec<u32>> =
+        read(&file).unwrap().stages[0].components.iter().map(|bits| bits[0].iter().map(|product| product.number(1)).collect()).collect();
+    assert_eq!(lists, [vec![0, 2], vec![4], vec![1]]);
+    assert_eq!(verdict(&produced(3, 3, &digits("01234576")).unwrap()), [0, 1, 0]);
+    assert_eq!(verdict(&produced(3, 3, &digits("01243675")).unwrap()), [14, 1, 0]);
+    assert_eq!(produced(4, 3, &cubic()), Err(16));
+    assert_eq!(verdict(&produced(4, 4, &cubic()).unwrap()), [0, 1, 0]);
+}
+
+#[test]
+fn coefficients() {
+    let table = [0, 1, 2, 3, 4, 5, 7, 6];
+    let (mut words, mut again) = ([0; 8], [0; 8]);
+    assert_eq!(to_coefficients(3, &table, &mut words), 0);
+    assert_eq!(words, [0, 1, 2, 0, 4, 0, 1, 0]);
+    assert_eq!(to_table(3, &words, &mut again), 0);
+    assert_eq!(again, table);
+}
+
+#[test]
+fn worked_designs() {
+    let present = chain(4, 3, &[&PRESENT_G, &PRESENT_F]);
+    assert_eq!(present.table, PRESENT);
+    assert_eq!(verdict(&encode(&present)), [0, 2, 0]);
+    assert!(!repeats(&keccak_row()));
+    assert_eq!(verdict(&encode(&leaking())), [13, 1, 2]);
+    assert_eq!(verdict(&produced(6, 3, &six_bits()).unwrap()), [0, 1, 0]);
+    assert_eq!(encode(&full()).len(), 32_767);
+    assert!(read(&encode(&full())).is_ok());
+    assert!(read(&encode(&twenty_share_bits())).is_ok());
+}
