@@ -54,17 +54,43 @@ pub fn leaking() -> Design {
     design
 }
 
+fn variable(share: usize, bit: usize) -> [u8; 5] {
+    let mut factors = [0; 5];
+    factors[share] = 1 << bit;
+    factors
+}
+
+/// Keccak's map of a row in four shares, with the products and the shares of x_(i+2) placed so that it is uniform.
+pub fn keccak_uniform() -> Design {
+    let table = keccak_row();
+    let mut components = vec![vec![Vec::new(); 5]; 4];
+    for i in 0..5 {
+        let (next, third) = ((i + 1) % 5, (i + 2) % 5);
+        for share in 0..4 {
+            components[(share + 3) % 4][i].push(Product::of(&variable(share, i)));
+            let place = [1, if i == 4 { 0 } else { 2 }, 0, 0][share];
+            components[place][i].push(Product::of(&variable(share, third)));
+            for other in 0..4 {
+                let mut factors = variable(share, next);
+                factors[other] |= 1 << third;
+                let place = match (share.min(other), share.max(other)) {
+                    (0, 1) => 2,
+                    (0, _) => 1,
+                    _ => 0,
+                };
+                components[place][i].push(Product::of(&factors));
+            }
+        }
+    }
+    Design { m: 5, s: 4, table: table.clone(), stages: vec![Stage { table, components }] }
+}
+
 /// A design whose file is the largest readable one of up to 32,768 bytes: 32,767, as every readable file has an odd
 /// length. Four bits, four shares, four stages of the identity: components 1 and 2 are shares 2 and 1, components 3 and 4
 /// are shares 4 and 3, and to the latter two the same products of shares 1 and 2 are added until the file is full.
 pub fn full() -> Design {
     let table: Vec<u8> = (0..16).collect();
-    let variable = |share: usize, bit: usize| {
-        let mut factors = [0; 5];
-        factors[share] = 1 << bit;
-        Product::of(&factors)
-    };
-    let component = |share: usize| (0..4).map(|bit| vec![variable(share, bit)]).collect();
+    let component = |share: usize| (0..4).map(|bit| vec![Product::of(&variable(share, bit))]).collect();
     let stage = Stage { table: table.clone(), components: [1, 0, 3, 2].map(component).to_vec() };
     let mut design = Design { m: 4, s: 4, table, stages: vec![stage; 4] };
     let mut pairs = (32_767 - crate::encode(&design).len()) / 8;
