@@ -1,1 +1,155 @@
-fn main() {}
+//! The published operations against plain C of the same method (c/plain.c), built by gcc -O3 -march=native and, where it
+//! is there, by clang: all in one run, the best of several rounds in turn, as ratios of the library's
+//! processor time to theirs.
+//!
+//!     cargo run --release -p bench [-- ROUNDS]
+
+use jestrunas::native::{Produced, Run, Shares, Verdict};
+use reference::samples::{chain, cubic, d, full, six_bits, twenty_share_bits};
+use reference::{encode, Design};
+use std::hint::black_box;
+use std::time::Duration;
+
+type Read = unsafe extern "C" fn(*const u8, usize) -> Verdict;
+type Judge = unsafe extern "C" fn(*const u8, usize, *mut u8, usize) -> Verdict;
+type RunChain = unsafe extern "C" fn(*const u8, usize, Shares) -> Run;
+type Produce = unsafe extern "C" fn(usize, usize, *const u8, usize, *mut u8, usize) -> Produced;
+type Passage = unsafe extern "C" fn(usize, *const u8, usize, *mut u8, usize) -> usize;
+
+/// One library of operations.
+struct Operations {
+    name: &'static str,
+    read: Read,
+    judge: Judge,
+    run: RunChain,
+    produce: Produce,
+    to_coefficients: Passage,
+}
+
+macro_rules! operations {
+    ($module:ident, $name:literal, $read:literal, $judge:literal, $run:literal, $produce:literal, $to_coefficients:literal) => {
+        mod $module {
+            use super::*;
+            extern "C" {
+                #[link_name = $read]
+                fn read(file: *const u8, file_len: usize) -> Verdict;
+                #[link_name = $judge]
+                fn judge(file: *const u8, file_len: usize, workspace: *mut u8, workspace_len: usize) -> Verdict;
+                #[link_name = $run]
+                fn run(file: *const u8, file_len: usize, shares: Shares) -> Run;
+                #[link_name = $produce]
+                fn produce(m: usize, s: usize, table: *const u8, table_len: usize, output: *mut u8, output_len: usize) -> Produced;
+                #[link_name = $to_coefficients]
+                fn to_coefficients(m: usize, input: *const u8, input_len: usize, output: *mut u8, output_len: usize) -> usize;
+            }
+            pub const OPERATIONS: Operations = Operations { name: $name, read, judge, run, produce, to_coefficients };
+        }
+    };
+}
+
+operations!(library, "library", "jestrunas_read", "jestrunas_judge", "jestrunas_run", "jestrunas_produce", "jestrunas_to_coefficients");
+operations!(gcc, "gcc", "gcc_read", "gcc_judge", "gcc_run", "gcc_produce", "gcc_to_coefficients");
+#[cfg(clang)]
+operations!(clang, "clang", "clang_read", "clang_judge", "clang_run", "clang_produce", "clang_to_coefficients");
+
+/// The processor time of this thread so far, which other programs on the machine do not add to.
+fn now() -> Duration {
+    #[repr(C)]
+    struct Time {
+        seconds: i64,
+        nanoseconds: i64,
+    }
+    extern "C" {
+        fn clock_gettime(clock: i32, time: *mut Time) -> i32;
+    }
+    const CLOCK_THREAD_CPUTIME_ID: i32 = 3;
+    let mut time = Time { seconds: 0, nanoseconds: 0 };
+    assert_eq!(unsafe { clock_gettime(CLOCK_THREAD_CPUTIME_ID, &mut time) }, 0);
+    Duration::new(time.seconds as u64, time.nanoseconds as u32)
+}
+
+/// The best time of one call, of each library, over some rounds in turn.
+fn best(rounds: usize, all: &[Operations], mut call: impl FnMut(&Operations)) -> Vec<Duration> {
+    // as many calls a round as take some milliseconds
+    let mut calls = 1;
+    loop {
+        let start = now();
+        (0..calls).for_each(|_| call(&all[0]));
+        if now() - start > Duration::from_millis(3) {
+            break;
+        }
+        calls *= 2;
+    }
+    let mut least = vec![Duration::MAX; all.len()];
+    for _ in 0..rounds {
+        for (operations, least) in all.iter().zip(&mut least) {
+            let start = now();
+            (0..calls).for_each(|_| call(operations));
+            *least = (*least).min(now() - start);
+        }
+    }
+    least.iter().map(|time| *time / calls).collect()
+}
+
+fn row(what: &str, operation: &str, all: &[Operations], rounds: usize, call: impl FnMut(&Operations)) {
+    let times = best(rounds, all, call);
+    let ratios: Vec<String> = times[1..].iter().map(|time| format!("{:.2}", times[0].as_secs_f64() / time.as_secs_f64())).collect();
+    println!("| {what} | {operation} | {:.3?} | {} |", times[0], ratios.join(" | "));
+}
+
+fn main() {
+    let rounds = std::env::args().nth(1).map_or(7, |n| n.parse().expect("ROUNDS is a number"));
+    let all = [
+        library::OPERATIONS,
+        gcc::OPERATIONS,
+        #[cfg(clang)]
+        clang::OPERATIONS,
+    ];
+    let names: Vec<String> = all[1..].iter().map(|operations| format!("library / {}", operations.name)).collect();
+    println!("| design | operation | library | {} |", names.join(" | "));
+    println!("|---|---|---|{}", "---|".repeat(names.len()));
+
+    let identity: &[u8] = &[0, 1];
+    let (cubic, six) = (cubic(), six_bits());
+    let designs: [(&str, Design, Option<&[u8]>); 6] = [
+        ("D", d(), Some(identity)),
+        ("0123456789ABCDFE, 4 shares", chain(4, 4, &[&cubic]), Some(&cubic)),
+        ("0123456789ABCDFE, 5 shares", chain(4, 5, &[&cubic]), Some(&cubic)),
+        ("6 bits, quadratic, 3 shares", chain(6, 3, &[&six]), Some(&six)),
+        ("20 share bits, 4 stages", twenty_share_bits(), None),
+        ("full file", full(), None),
+    ];
+    let (mut workspace, mut output) = (vec![0u8; 131_072], vec![0u8; 32_768]);
+    for (name, design, table) in &designs {
+        let file = encode(design);
+        let what = format!("{name} ({} bytes)", file.len());
+        let mut verdicts = Vec::new();
+        row(&what, "verdict", &all, rounds, |o| {
+            let verdict = unsafe { (o.judge)(file.as_ptr(), file.len(), workspace.as_mut_ptr(), workspace.len()) };
+            verdicts.push(verdict);
+            if verdicts.len() > 8 {
+                verdicts.swap_remove(0);
+            }
+        });
+        assert!(verdicts.iter().all(|v| (v.reason, v.place) == (0, design.stages.len())), "{name}: {verdicts:?}");
+        row(&what, "read", &all, rounds, |o| {
+            black_box(unsafe { (o.read)(file.as_ptr(), file.len()) });
+        });
+        row(&what, "run", &all, rounds, |o| {
+            let answer = unsafe { (o.run)(file.as_ptr(), file.len(), Shares { share: [1, 0, 1, 0, 0] }) };
+            assert_eq!(black_box(answer).reason, 0);
+        });
+        if let Some(table) = table {
+            row(&what, "produce", &all, rounds, |o| {
+                let answer =
+                    unsafe { (o.produce)(design.m, design.s, table.as_ptr(), table.len(), output.as_mut_ptr(), output.len()) };
+                assert_eq!(black_box(answer).length, file.len());
+            });
+            assert_eq!(output[..file.len()], file);
+            row(&what, "transform", &all, rounds, |o| {
+                let answer = unsafe { (o.to_coefficients)(design.m, table.as_ptr(), table.len(), output.as_mut_ptr(), output.len()) };
+                assert_eq!(black_box(answer), 0);
+            });
+        }
+    }
+}
