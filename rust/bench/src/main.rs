@@ -38,7 +38,14 @@ macro_rules! operations {
                 #[link_name = $run]
                 fn run(file: *const u8, file_len: usize, shares: Shares) -> Run;
                 #[link_name = $produce]
-                fn produce(m: usize, s: usize, table: *const u8, table_len: usize, output: *mut u8, output_len: usize) -> Produced;
+                fn produce(
+                    m: usize,
+                    s: usize,
+                    table: *const u8,
+                    table_len: usize,
+                    output: *mut u8,
+                    output_len: usize,
+                ) -> Produced;
                 #[link_name = $to_coefficients]
                 fn to_coefficients(m: usize, input: *const u8, input_len: usize, output: *mut u8, output_len: usize) -> usize;
             }
@@ -47,7 +54,15 @@ macro_rules! operations {
     };
 }
 
-operations!(library, "library", "jestrunas_read", "jestrunas_judge", "jestrunas_run", "jestrunas_produce", "jestrunas_to_coefficients");
+operations!(
+    library,
+    "library",
+    "jestrunas_read",
+    "jestrunas_judge",
+    "jestrunas_run",
+    "jestrunas_produce",
+    "jestrunas_to_coefficients"
+);
 operations!(gcc, "gcc", "gcc_read", "gcc_judge", "gcc_run", "gcc_produce", "gcc_to_coefficients");
 #[cfg(clang)]
 operations!(clang, "clang", "clang_read", "clang_judge", "clang_run", "clang_produce", "clang_to_coefficients");
@@ -93,7 +108,8 @@ fn best(rounds: usize, all: &[Operations], mut call: impl FnMut(&Operations)) ->
 
 fn row(what: &str, operation: &str, all: &[Operations], rounds: usize, call: impl FnMut(&Operations)) {
     let times = best(rounds, all, call);
-    let ratios: Vec<String> = times[1..].iter().map(|time| format!("{:.2}", times[0].as_secs_f64() / time.as_secs_f64())).collect();
+    let ratios: Vec<String> =
+        times[1..].iter().map(|time| format!("{:.2}", times[0].as_secs_f64() / time.as_secs_f64())).collect();
     println!("| {what} | {operation} | {:.3?} | {} |", times[0], ratios.join(" | "));
 }
 
@@ -147,7 +163,8 @@ fn main() {
             });
             assert_eq!(output[..file.len()], file);
             row(&what, "transform", &all, rounds, |o| {
-                let answer = unsafe { (o.to_coefficients)(design.m, table.as_ptr(), table.len(), output.as_mut_ptr(), output.len()) };
+                let answer =
+                    unsafe { (o.to_coefficients)(design.m, table.as_ptr(), table.len(), output.as_mut_ptr(), output.len()) };
                 assert_eq!(black_box(answer), 0);
             });
         }

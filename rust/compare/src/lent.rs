@@ -1,10 +1,12 @@
 //! Memory to lend to the library: between two pages that nobody may touch, with marked bytes beside it.
 
 use std::ffi::c_void;
+use std::sync::Mutex;
 
 extern "C" {
     fn mmap(at: *mut c_void, length: usize, protection: i32, flags: i32, file: i32, offset: i64) -> *mut c_void;
     fn mprotect(at: *mut c_void, length: usize, protection: i32) -> i32;
+    fn signal(number: i32, handler: extern "C" fn(i32)) -> usize;
 }
 
 const PAGE: usize = 4096;
@@ -12,6 +14,29 @@ const READ_WRITE: i32 = 3;
 const PRIVATE_ANONYMOUS: i32 = 0x22;
 const BESIDE: usize = 64;
 const MARK: u8 = 0xa5;
+
+static LAST: Mutex<Vec<u8>> = Mutex::new(Vec::new());
+
+/// The file that is compared now.
+pub fn remember(file: &[u8]) {
+    let mut last = LAST.lock().expect("one thread");
+    last.clear();
+    last.extend(file);
+}
+
+extern "C" fn touched(_: i32) {
+    println!("DIFFERENCE: the library touched memory that was not lent, at or after the file");
+    if let Ok(last) = LAST.try_lock() {
+        println!("  input {}", crate::hex(&last));
+    }
+    std::process::exit(1);
+}
+
+/// From now on, a touch of memory beside what is lent ends the program with status 1 and names the file.
+pub fn watch() {
+    const SEGMENTATION_FAULT: i32 = 11;
+    unsafe { signal(SEGMENTATION_FAULT, touched) };
+}
 
 /// A stretch of memory from which one slice at a time is lent.
 pub struct Lent {

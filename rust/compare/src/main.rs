@@ -37,7 +37,10 @@ impl Counts {
     }
 
     fn say(&self, what: &str, due: &[usize]) -> bool {
-        let seen: Vec<String> = (0..19).filter(|&r| self.by_reason[r] > 0 || due.contains(&r)).map(|r| format!("{r}:{}", self.by_reason[r])).collect();
+        let seen: Vec<String> = (0..19)
+            .filter(|&r| self.by_reason[r] > 0 || due.contains(&r))
+            .map(|r| format!("{r}:{}", self.by_reason[r]))
+            .collect();
         println!("{what}: {} calls, by reason {}", self.total(), seen.join(" "));
         let missing: Vec<&usize> = due.iter().filter(|&&r| self.by_reason[r] == 0).collect();
         if !missing.is_empty() {
@@ -126,6 +129,7 @@ impl Comparison {
         self.files += 1;
         let at_end = !self.random.once_in(4);
         self.file.put(file, at_end);
+        lent::remember(file);
 
         let meaning = reference::read(file);
         let due = meaning.as_ref().map_or_else(|fault| [fault.reason, fault.place, 0], |_| [0, 0, 0]);
@@ -147,7 +151,8 @@ impl Comparison {
             Ok(design) => {
                 self.readable += 1;
                 let (m, s) = (design.m, design.s);
-                self.sizes[SIZES.iter().position(|&size| size == (m, s)).expect("within the limits")][design.stages.len() - 1] += 1;
+                self.sizes[SIZES.iter().position(|&size| size == (m, s)).expect("within the limits")][design.stages.len() - 1] +=
+                    1;
                 if encode(design) != file {
                     self.differs("one meaning has one file", file, "", hex(&encode(design)));
                 }
@@ -269,7 +274,10 @@ impl Comparison {
             let (answer, due) = if back {
                 (native::to_table(m, self.file.slice(), self.lent.slice()), reference::to_table(m, &words, &mut after))
             } else {
-                (native::to_coefficients(m, self.file.slice(), self.lent.slice()), reference::to_coefficients(m, &words, &mut after))
+                (
+                    native::to_coefficients(m, self.file.slice(), self.lent.slice()),
+                    reference::to_coefficients(m, &words, &mut after),
+                )
             };
             let name = if back { "to table" } else { "to coefficients" };
             if answer != due {
@@ -355,20 +363,29 @@ impl Comparison {
         }
     }
 
+    /// A design of this size. Of the largest sizes most are refused soon: a whole verdict takes a second there.
+    fn sized(&mut self, m: usize, s: usize, k: usize) -> Design {
+        let random = &mut self.random;
+        if m * s <= 16 || random.once_in(12) {
+            return make::design(random, m, s, k);
+        }
+        let mut design = make::identity(m, s, k);
+        if random.once_in(2) {
+            design.table = make::permutation(random, m);
+        } else {
+            let (j, bit) = (random.below(s), random.below(m));
+            design.stages[0].components[j][bit].push(reference::Product::of(&[0; 5]));
+        }
+        design
+    }
+
     fn generated(&mut self, files: usize) {
         while self.files < files {
             let base = match self.random.below(40) {
                 0..=29 => {
                     let (m, s) = make::size(&mut self.random);
                     let k = if m * s > 12 { 1 + self.random.below(2) * self.random.below(4) } else { 1 + self.random.below(4) };
-                    // at the largest sizes only designs that are refused at once, but for those of `large`
-                    if m * s > 16 {
-                        let mut design = make::identity(m, s, k);
-                        design.table = make::permutation(&mut self.random, m);
-                        encode(&design)
-                    } else {
-                        encode(&make::design(&mut self.random, m, s, k))
-                    }
+                    encode(&self.sized(m, s, k))
                 }
                 30..=36 => match self.produce() {
                     Some(file) if file[4] * file[5] <= 16 => file,
@@ -402,6 +419,7 @@ fn main() {
     let files = arguments.next().map_or(200_000, |n| n.replace(['_', ','], "").parse().expect("FILES is a number"));
     let seed = arguments.next().map_or(20_261_115, |n| n.parse().expect("SEED is a number"));
     let start = Instant::now();
+    lent::watch();
     let mut c = Comparison::new(seed);
     c.cuts();
     c.workspaces();
@@ -422,7 +440,13 @@ fn main() {
     complete &= c.runs.say("run", &[0, 1, 2, 3, 4, 5, 6, 7, 15]);
     complete &= c.produced.say("produce", &[0, 3, 4, 5, 8, 16, 17]);
     complete &= c.passages.say("passages", &[0, 3, 4, 5, 17]);
-    println!("seed {seed}: {} files ({} readable), {} differences, {:.1} s", c.files, c.readable, c.differences, start.elapsed().as_secs_f64());
+    println!(
+        "seed {seed}: {} files ({} readable), {} differences, {:.1} s",
+        c.files,
+        c.readable,
+        c.differences,
+        start.elapsed().as_secs_f64()
+    );
     if c.differences > 0 || !complete {
         std::process::exit(1);
     }

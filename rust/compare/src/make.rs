@@ -4,14 +4,13 @@ use crate::random::Random;
 use reference::{direct_sharing, encode, Design, Product, Shares, Stage};
 
 pub const D: [u8; 47] = [
-    3, 0, 1, 0, 1, 3, 1, 2, 0, 2, 0, 0, 1, 2, 0, 2, 0, 0, 1, 4, 0, 3, 0, 2, 0, 0, 0, 4, 0, 3, 0, 4, 0, 0, 0, 4, 0, 3, 0, 1, 0, 0, 0,
-    0, 0, 4, 0,
+    3, 0, 1, 0, 1, 3, 1, 2, 0, 2, 0, 0, 1, 2, 0, 2, 0, 0, 1, 4, 0, 3, 0, 2, 0, 0, 0, 4, 0, 3, 0, 4, 0, 0, 0, 4, 0, 3, 0, 1, 0, 0,
+    0, 0, 0, 4, 0,
 ];
 
 /// Every width and number of shares, m * s rising.
-pub const SIZES: [(usize, usize); 15] = [
-    (1, 3), (1, 4), (1, 5), (2, 3), (2, 4), (3, 3), (2, 5), (3, 4), (4, 3), (3, 5), (5, 3), (4, 4), (6, 3), (4, 5), (5, 4),
-];
+pub const SIZES: [(usize, usize); 15] =
+    [(1, 3), (1, 4), (1, 5), (2, 3), (2, 4), (3, 3), (2, 5), (3, 4), (4, 3), (3, 5), (5, 3), (4, 4), (6, 3), (4, 5), (5, 4)];
 
 /// A width and a number of shares, mostly small ones.
 pub fn size(random: &mut Random) -> (usize, usize) {
@@ -154,11 +153,7 @@ pub fn design(random: &mut Random, m: usize, s: usize, k: usize) -> Design {
         } else {
             shareable(random, m, s)
         };
-        let mut stage = if wild {
-            Stage { components: any_lists(random, m, s), table }
-        } else {
-            direct_sharing(m, s, &table)
-        };
+        let mut stage = if wild { Stage { components: any_lists(random, m, s), table } } else { direct_sharing(m, s, &table) };
         match random.below(16) {
             0 => correct(random, &mut stage, m, s, false),
             1..=3 => correct(random, &mut stage, m, s, true),

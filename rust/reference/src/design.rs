@@ -74,8 +74,8 @@ impl Stage {
     pub fn output(&self, shares: &Shares) -> Shares {
         let given = beside(shares);
         let mut out = [0; 5];
-        for j in 0..self.components.len() {
-            out[j] = self.component(j, given);
+        for (j, share) in out.iter_mut().take(self.components.len()).enumerate() {
+            *share = self.component(j, given);
         }
         out
     }
@@ -127,36 +127,49 @@ impl<'a> Reader<'a> {
 
     fn table(&mut self, m: usize) -> Result<Vec<u8>, Fault> {
         let entries = 1 << m;
-        self.record(2, |length| length == entries, |body| {
-            if body.iter().any(|&entry| usize::from(entry) >= entries) {
-                return Err(5);
-            }
-            Ok(body.to_vec())
-        })
+        self.record(
+            2,
+            |length| length == entries,
+            |body| {
+                if body.iter().any(|&entry| usize::from(entry) >= entries) {
+                    return Err(5);
+                }
+                Ok(body.to_vec())
+            },
+        )
     }
 
     fn products(&mut self, m: usize, s: usize) -> Result<Vec<Product>, Fault> {
-        self.record(3, |length| length % 4 == 0 && length <= 16_384, |body| {
-            let numbers: Vec<u32> = body.chunks(4).map(|four| u32::from_le_bytes([four[0], four[1], four[2], four[3]])).collect();
-            if numbers.windows(2).any(|two| two[0] >= two[1]) {
-                return Err(6);
-            }
-            numbers.iter().map(|&number| Product::from_number(number, m, s).ok_or(6)).collect()
-        })
+        self.record(
+            3,
+            |length| length % 4 == 0 && length <= 16_384,
+            |body| {
+                let numbers: Vec<u32> =
+                    body.chunks(4).map(|four| u32::from_le_bytes([four[0], four[1], four[2], four[3]])).collect();
+                if numbers.windows(2).any(|two| two[0] >= two[1]) {
+                    return Err(6);
+                }
+                numbers.iter().map(|&number| Product::from_number(number, m, s).ok_or(6)).collect()
+            },
+        )
     }
 }
 
 /// What a file means, or its first fault.
 pub fn read(file: &[u8]) -> Result<Design, Fault> {
     let mut reader = Reader { file, at: 0 };
-    let (m, s, k) = reader.record(1, |length| length == 3, |body| {
-        let (m, s, k) = (usize::from(body[0]), usize::from(body[1]), usize::from(body[2]));
-        if within_limits(m, s) && (1..=4).contains(&k) {
-            Ok((m, s, k))
-        } else {
-            Err(4)
-        }
-    })?;
+    let (m, s, k) = reader.record(
+        1,
+        |length| length == 3,
+        |body| {
+            let (m, s, k) = (usize::from(body[0]), usize::from(body[1]), usize::from(body[2]));
+            if within_limits(m, s) && (1..=4).contains(&k) {
+                Ok((m, s, k))
+            } else {
+                Err(4)
+            }
+        },
+    )?;
     let table = reader.table(m)?;
     let mut stages = Vec::new();
     for _ in 0..k {

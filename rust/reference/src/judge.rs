@@ -44,7 +44,8 @@ impl<'a> Outputs<'a> {
     }
 
     fn at(&mut self, shares: &Shares) -> Shares {
-        let place = shares.iter().fold(0, |place, &share| place << self.m | usize::from(share)) >> (self.m * (5 - self.stage.components.len()));
+        let place = shares.iter().fold(0, |place, &share| place << self.m | usize::from(share))
+            >> (self.m * (5 - self.stage.components.len()));
         *self.known[place].get_or_insert_with(|| self.stage.output(shares))
     }
 }

@@ -31,8 +31,8 @@ pub fn to_coefficients(m: usize, table: &[u8], output: &mut [u8]) -> usize {
     if let Some(reason) = refused(m, table, output) {
         return reason;
     }
-    for u in 0..1 << m {
-        output[u] = coefficient(table, u);
+    for (u, word) in output.iter_mut().take(1 << m).enumerate() {
+        *word = coefficient(table, u);
     }
     0
 }
@@ -42,14 +42,13 @@ pub fn to_table(m: usize, words: &[u8], output: &mut [u8]) -> usize {
     if let Some(reason) = refused(m, words, output) {
         return reason;
     }
-    for x in 0..1 << m {
-        let mut entry = 0;
-        for term in 0..1 << m {
+    for (x, entry) in output.iter_mut().take(1 << m).enumerate() {
+        *entry = 0;
+        for (term, word) in words.iter().enumerate() {
             if (0..m).all(|variable| term >> variable & 1 == 0 || x >> variable & 1 == 1) {
-                entry ^= words[term];
+                *entry ^= word;
             }
         }
-        output[x] = entry;
     }
     0
 }

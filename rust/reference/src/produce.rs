@@ -16,7 +16,10 @@ fn component_of(chosen: &[usize], s: usize) -> usize {
 fn choices(variables: &[usize], s: usize) -> Vec<Vec<(usize, usize)>> {
     let mut all = vec![Vec::new()];
     for &variable in variables {
-        all = all.into_iter().flat_map(|chosen| (0..s).map(move |share| [chosen.clone(), vec![(variable, share)]].concat())).collect();
+        all = all
+            .into_iter()
+            .flat_map(|chosen| (0..s).map(move |share| [chosen.clone(), vec![(variable, share)]].concat()))
+            .collect();
     }
     all
 }

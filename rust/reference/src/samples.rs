@@ -11,15 +11,24 @@ pub const PRESENT_F: [u8; 16] = [0, 8, 11, 7, 10, 3, 1, 12, 4, 6, 15, 9, 14, 13,
 
 /// Keccak's map of a row: y_i = x_i + (x_(i+1) + 1) x_(i+2), indices modulo 5.
 pub fn keccak_row() -> Vec<u8> {
-    (0..32u8).map(|x| (0..5).map(|i| ((x >> i) ^ (!(x >> ((i + 1) % 5)) & x >> ((i + 2) % 5))) & 1) .enumerate().fold(0, |y, (i, bit)| y | bit << i)).collect()
+    (0..32u8)
+        .map(|x| {
+            (0..5)
+                .map(|i| ((x >> i) ^ (!(x >> ((i + 1) % 5)) & x >> ((i + 2) % 5))) & 1)
+                .enumerate()
+                .fold(0, |y, (i, bit)| y | bit << i)
+        })
+        .collect()
 }
 
 /// A quadratic permutation of 6 bits: to the three low bits the products of two high bits are added.
 pub fn six_bits() -> Vec<u8> {
-    (0..64u8).map(|x| {
-        let (a, b, c) = (x >> 3 & 1, x >> 4 & 1, x >> 5 & 1);
-        x ^ (a & b) ^ (b & c) << 1 ^ (a & c) << 2
-    }).collect()
+    (0..64u8)
+        .map(|x| {
+            let (a, b, c) = (x >> 3 & 1, x >> 4 & 1, x >> 5 & 1);
+            x ^ (a & b) ^ (b & c) << 1 ^ (a & c) << 2
+        })
+        .collect()
 }
 
 /// The map 0123456789ABCDFE, of degree 3.
@@ -40,7 +49,8 @@ pub fn d() -> Design {
 
 /// One stage of one bit in three shares, S and G the identity, with these lists of terms.
 pub fn one_bit(lists: [&[u32]; 3]) -> Design {
-    let list = |terms: &[u32]| vec![terms.iter().map(|&term| Product::from_number(term, 1, 3).expect("three variables")).collect()];
+    let list =
+        |terms: &[u32]| vec![terms.iter().map(|&term| Product::from_number(term, 1, 3).expect("three variables")).collect()];
     Design { m: 1, s: 3, table: vec![0, 1], stages: vec![Stage { table: vec![0, 1], components: lists.map(list).to_vec() }] }
 }
 

@@ -1,11 +1,13 @@
 //! The bench designs of the papers, with the answers that the papers give.
 
-use reference::samples::{chain, cubic, d, full, keccak_row, leaking, one_bit, six_bits, twenty_share_bits, PRESENT, PRESENT_F, PRESENT_G};
+use reference::samples::{
+    chain, cubic, d, full, keccak_row, leaking, one_bit, six_bits, twenty_share_bits, PRESENT, PRESENT_F, PRESENT_G,
+};
 use reference::{encode, judge, produce, read, repeats, run, to_coefficients, to_table, Answer};
 
 const D: [u8; 47] = [
-    3, 0, 1, 0, 1, 3, 1, 2, 0, 2, 0, 0, 1, 2, 0, 2, 0, 0, 1, 4, 0, 3, 0, 2, 0, 0, 0, 4, 0, 3, 0, 4, 0, 0, 0, 4, 0, 3, 0, 1, 0, 0, 0,
-    0, 0, 4, 0,
+    3, 0, 1, 0, 1, 3, 1, 2, 0, 2, 0, 0, 1, 2, 0, 2, 0, 0, 1, 4, 0, 3, 0, 2, 0, 0, 0, 4, 0, 3, 0, 4, 0, 0, 0, 4, 0, 3, 0, 1, 0, 0,
+    0, 0, 0, 4, 0,
 ];
 
 fn verdict(file: &[u8]) -> Answer {
@@ -16,7 +18,11 @@ fn produced(m: usize, s: usize, table: &[u8]) -> Result<Vec<u8>, usize> {
     let mut output = vec![0; 16_583];
     let (reason, length) = produce(m, s, table, &mut output);
     output.truncate(length);
-    if reason == 0 { Ok(output) } else { Err(reason) }
+    if reason == 0 {
+        Ok(output)
+    } else {
+        Err(reason)
+    }
 }
 
 fn digits(text: &str) -> Vec<u8> {
@@ -83,8 +89,11 @@ fn long_lists() {
 fn producing() {
     let file = produced(1, 3, &[1, 0]).unwrap();
     assert_eq!(file.len(), 51);
-    let lists: Vec<Vec<u32>> =
-        read(&file).unwrap().stages[0].components.iter().map(|bits| bits[0].iter().map(|product| product.number(1)).collect()).collect();
+    let lists: Vec<Vec<u32>> = read(&file).unwrap().stages[0]
+        .components
+        .iter()
+        .map(|bits| bits[0].iter().map(|product| product.number(1)).collect())
+        .collect();
     assert_eq!(lists, [vec![0, 2], vec![4], vec![1]]);
     assert_eq!(verdict(&produced(3, 3, &digits("01234576")).unwrap()), [0, 1, 0]);
     assert_eq!(verdict(&produced(3, 3, &digits("01243675")).unwrap()), [14, 1, 0]);

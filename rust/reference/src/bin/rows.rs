@@ -23,7 +23,10 @@ use std::collections::BTreeMap;
 use std::io::{self, BufRead, Write};
 
 fn entries(text: &str, digits: usize) -> Vec<u8> {
-    text.as_bytes().chunks(digits).map(|part| u8::from_str_radix(std::str::from_utf8(part).unwrap(), 16).expect("hexadecimal")).collect()
+    text.as_bytes()
+        .chunks(digits)
+        .map(|part| u8::from_str_radix(std::str::from_utf8(part).unwrap(), 16).expect("hexadecimal"))
+        .collect()
 }
 
 fn main() -> io::Result<()> {
