@@ -1,0 +1,209 @@
+-- Laws of `total` and `count`, and the pigeonhole: an injective map of the numbers below n into themselves takes each value exactly once.
+-- Assumes nothing.
+use mathlib.Core.Path.{_≡_, refl, sym, ap, ap₂, _∙_, subst}
+use mathlib.Core.Bool.{Bool, true, false, _&&_, _||_, not, true≢false, false≢true}
+use mathlib.Core.Logic.{_⊎_, inl, inr, ⊎-elim}
+use Prim.Native.Nat.{ℕ, zero, suc, _+_, _*_, _≤_, _<_, suc-le-suc, zero-le}
+use native.Mathlib.Nat.{le-of-suc-le-suc, not-suc-le-zero, le-refl, le-step, eq-or-lt-of-le, lt-irrefl, suc-inj, le-of-lt, le-antisymm, lt-of-not-le, mul-add, mul-one}
+use native.Mathlib.Omega.{arith}
+use lib.Dec.{eqb}
+use borrow.Author.Tests.{eqb-true, eq-eqb, ne-eqb}
+use Rattle.anf.specs.Tests.{total, bit, count, all, any}
+use Rattle.anf.proofs.Testing.{true-or-not, below}
+
+-- ---- totals
+
+pub total-congr : (n : ℕ) (f g : ℕ → ℕ) → ((i : ℕ) → i < n → f i ≡ g i) → total n f ≡ total n g
+unfolding total
+total-congr zero f g h = refl
+total-congr (suc n) f g h = ap₂ _+_ (h n (le-refl (suc n))) (total-congr n f g (λ i l. h i (le-step l)))
+
+pub total-zero : (n : ℕ) (f : ℕ → ℕ) → ((i : ℕ) → i < n → f i ≡ 0) → total n f ≡ 0
+unfolding total
+total-zero zero f h = refl
+total-zero (suc n) f h = omega (arith, h n (le-refl (suc n)), total-zero n f (λ i l. h i (le-step l)))
+
+pub total-add : (n : ℕ) (f g : ℕ → ℕ) → total n (λ i. f i + g i) ≡ total n f + total n g
+unfolding total
+total-add zero f g = refl
+total-add (suc n) f g = omega (arith, total-add n f g)
+
+pub total-mono : (n : ℕ) (f g : ℕ → ℕ) → ((i : ℕ) → i < n → f i ≤ g i) → total n f ≤ total n g
+unfolding total
+total-mono zero f g h = zero-le
+total-mono (suc n) f g h = omega (arith, h n (le-refl (suc n)), total-mono n f g (λ i l. h i (le-step l)))
+
+-- where only the place k may differ from zero, the total is what stands there
+pub total-one : (n : ℕ) (f : ℕ → ℕ) (k : ℕ) → k < n → ((i : ℕ) → i < n → (i ≡ k → ⊥) → f i ≡ 0) → total n f ≡ f k
+unfolding total
+total-one zero f k l h = absurd (not-suc-le-zero l)
+total-one (suc n) f k l h =
+    below l
+    (λ e. omega (arith, ap f e, total-zero n f (λ i b. h i (le-step b) (λ q. omega arith))))
+    (λ b. omega (arith, h n (le-refl (suc n)) (λ q. omega arith), total-one n f k b (λ i c. h i (le-step c))))
+
+-- n numbers, each at most 1, that make n are each 1
+pub total-le : (n : ℕ) (f : ℕ → ℕ) → ((i : ℕ) → i < n → f i ≤ 1) → total n f ≤ n
+unfolding total
+total-le zero f h = zero-le
+total-le (suc n) f h = omega (arith, h n (le-refl (suc n)), total-le n f (λ i l. h i (le-step l)))
+
+pub total-full : (n : ℕ) (f : ℕ → ℕ) → ((i : ℕ) → i < n → f i ≤ 1) → total n f ≡ n → (k : ℕ) → k < n → f k ≡ 1
+unfolding total
+total-full zero f h e k l = absurd (not-suc-le-zero l)
+total-full (suc n) f h e k l =
+    let b = total-le n f (λ i c. h i (le-step c)) in
+    let t = h n (le-refl (suc n)) in
+    below l
+    (λ q. ap f q ∙ omega arith)
+    (λ c. total-full n f (λ i d. h i (le-step d)) (omega arith) k c)
+
+-- ---- counts. A test's answer is an equation, `p i ≡ true`.
+
+bit-le : (b : Bool) → bit b ≤ 1
+bit-le true = le-refl 1
+bit-le false = zero-le
+
+bit-true : {b : Bool} → b ≡ true → bit b ≡ 1
+bit-true e = ap bit e
+
+bit-not : (b : Bool) → (b ≡ true → ⊥) → bit b ≡ 0
+bit-not true h = absurd (h refl)
+bit-not false h = refl
+
+pub count-congr : (n : ℕ) (p q : ℕ → Bool) → ((i : ℕ) → i < n → p i ≡ q i) → count n p ≡ count n q
+count-congr n p q h = total-congr n _ _ (λ i l. ap bit (h i l))
+
+pub count-mono : (n : ℕ) (p q : ℕ → Bool) → ((i : ℕ) → i < n → p i ≡ true → q i ≡ true) → count n p ≤ count n q
+count-mono n p q h = total-mono n _ _ (λ i l. step (p i) (q i) (h i l))
+  where
+    step : (a b : Bool) → (a ≡ true → b ≡ true) → bit a ≤ bit b
+    step true b f = omega (arith, bit-true (f refl))
+    step false b f = zero-le
+
+pub count-none : (n : ℕ) (p : ℕ → Bool) → ((i : ℕ) → i < n → p i ≡ true → ⊥) → count n p ≡ 0
+count-none n p h = total-zero n _ (λ i l. bit-not (p i) (h i l))
+
+-- one place passes and no other: the count is 1
+pub count-one : (n : ℕ) (p : ℕ → Bool) (k : ℕ) → k < n → p k ≡ true → ((i : ℕ) → i < n → p i ≡ true → i ≡ k) → count n p ≡ 1
+count-one n p k l e u = total-one n _ k l (λ i b ne. bit-not (p i) (λ q. ne (u i b q))) ∙ bit-true e
+
+-- a count that is not 0 has a place
+pub count-some : (n : ℕ) (p : ℕ → Bool) → 1 ≤ count n p → (k : ℕ) × (k < n) × (p k ≡ true)
+unfolding total
+count-some zero p h = absurd (not-suc-le-zero h)
+count-some (suc n) p h =
+    ⊎-elim
+    (λ e. (n, le-refl (suc n), e))
+    (λ ne. let r = count-some n p (omega (arith, bit-not (p n) ne)) in (r .0, le-step (r .1), r .2))
+    (true-or-not (p n))
+
+-- one place that passes makes 1, and two places make 2
+pub count-has : (n : ℕ) (p : ℕ → Bool) (k : ℕ) → k < n → p k ≡ true → 1 ≤ count n p
+unfolding total
+count-has zero p k l e = absurd (not-suc-le-zero l)
+count-has (suc n) p k l e =
+    below l (λ q. omega (arith, bit-true (ap p (sym q) ∙ e))) (λ b. omega (arith, count-has n p k b e))
+
+pub count-two : (n : ℕ) (p : ℕ → Bool) (i k : ℕ) → i < k → k < n → p i ≡ true → p k ≡ true → 2 ≤ count n p
+unfolding total
+count-two zero p i k d l ei ek = absurd (not-suc-le-zero l)
+count-two (suc n) p i k d l ei ek =
+    below l
+    (λ q. omega (arith, bit-true (ap p (sym q) ∙ ek), count-has n p i (omega arith) ei))
+    (λ b. omega (arith, count-two n p i k d b ei ek))
+
+-- a count of 1: two places that pass are one
+pub count-unique : (n : ℕ) (p : ℕ → Bool) → count n p ≡ 1 → (i k : ℕ) → i < n → k < n → p i ≡ true → p k ≡ true → i ≡ k
+count-unique n p c i k li lk ei ek =
+    le-antisymm
+    (le-of-suc-le-suc (lt-of-not-le (λ h. omega (arith, count-two n p k i h li ek ei))))
+    (le-of-suc-le-suc (lt-of-not-le (λ h. omega (arith, count-two n p i k h lk ei ek))))
+
+-- ---- the pigeonhole
+
+-- the values of f, each below m, counted by value
+pub by-value : (n m : ℕ) (f : ℕ → ℕ) → ((i : ℕ) → i < n → f i < m) → total m (λ y. count n (λ i. eqb (f i) y)) ≡ n
+unfolding total
+by-value zero m f h = total-zero m _ (λ i l. refl)
+by-value (suc n) m f h =
+    total-add m (λ y. bit (eqb (f n) y)) (λ y. count n (λ i. eqb (f i) y))
+    ∙ omega (
+      arith,
+      count-one m (λ y. eqb (f n) y) (f n) (h n (le-refl (suc n))) (eq-eqb (f n) (f n) refl) (λ i l e. sym (eqb-true (f n) i e)),
+      by-value n m f (λ i l. h i (le-step l)),
+    )
+
+abbrev pub Injective : ℕ → (ℕ → ℕ) → Type 0
+Injective n f = (i k : ℕ) → i < n → k < n → f i ≡ f k → i ≡ k
+
+module _ (n : ℕ) (f : ℕ → ℕ) (inj : Injective n f) where
+  -- an injective f takes no value twice
+  at-most-once : (y : ℕ) → count n (λ i. eqb (f i) y) ≤ 1
+  at-most-once y =
+      le-of-suc-le-suc (lt-of-not-le (λ h. more h))
+    where
+      more : 2 ≤ count n (λ i. eqb (f i) y) → ⊥
+      more h =
+          let a = count-some n (λ i. eqb (f i) y) (omega arith) in
+          omega (
+            arith,
+            count-one n (λ i. eqb (f i) y) (a .0) (a .1) (a .2)
+                (λ i l e. inj i (a .0) l (a .1) (eqb-true (f i) y e ∙ sym (eqb-true (f (a .0)) y (a .2)))),
+          )
+
+  -- and where its values are below n too, it takes each of them exactly once
+  pub pigeonhole : ((i : ℕ) → i < n → f i < n) → (y : ℕ) → y < n → count n (λ i. eqb (f i) y) ≡ 1
+  pigeonhole into = total-full n _ (λ y l. at-most-once y) (by-value n n f into)
+
+  pub onto : ((i : ℕ) → i < n → f i < n) → (y : ℕ) → y < n → (k : ℕ) × (k < n) × (f k ≡ y)
+  onto into y l =
+      let r = count-some n (λ i. eqb (f i) y) (omega (arith, pigeonhole into y l)) in
+      (r .0, r .1, eqb-true (f (r .0)) y (r .2))
+
+-- a count is kept when its places are renamed one to one
+pub count-image : (n : ℕ) (f : ℕ → ℕ) → Injective n f → ((i : ℕ) → i < n → f i < n) → (p : ℕ → Bool) → count n p ≡ 1 → count n (λ i. p (f i)) ≡ 1
+count-image n f inj into p c =
+    let t = count-some n p (omega arith) in
+    let k = onto n f inj into (t .0) (t .1) in
+    count-one n (λ i. p (f i)) (k .0) (k .1) (ap p (k .2) ∙ t .2)
+    (λ i l e. inj i (k .0) l (k .1) (count-unique n p c (f i) (f (k .0)) (into i l) (into (k .0) (k .1)) e (ap p (k .2) ∙ t .2)))
+
+-- the places that pass a, counted by what d makes of them
+pub by-part : (n k : ℕ) (a : ℕ → Bool) (d : ℕ → ℕ) (p : ℕ → Bool) → ((i : ℕ) → i < n → d i < k)
+    → count n (λ i. a i && p (d i)) ≡ total k (λ q. bit (p q) * count n (λ i. a i && eqb (d i) q))
+unfolding total
+by-part zero k a d p h = sym (total-zero k _ (λ q l. refl′ (p q)))
+  where
+    refl′ : (b : Bool) → bit b * 0 ≡ 0
+    refl′ true = refl
+    refl′ false = refl
+by-part (suc n) k a d p h =
+    sym (total-congr k _ _ (λ q l. mul-add (bit (p q)) (bit (a n && eqb (d n) q)) (count n (λ i. a i && eqb (d i) q)))
+    ∙ total-add k (λ q. bit (p q) * bit (a n && eqb (d n) q)) (λ q. bit (p q) * count n (λ i. a i && eqb (d i) q))
+    ∙ ap₂ _+_
+    (total-one k (λ q. bit (p q) * bit (a n && eqb (d n) q)) (d n) (h n (le-refl (suc n))) (λ q l ne. none (p q) (a n) (eqb (d n) q) (ne-eqb (d n) q (λ e. ne (sym e))))
+    ∙ here (p (d n)) (a n) (eqb (d n) (d n)) (eq-eqb (d n) (d n) refl))
+    (sym (by-part n k a d p (λ i l. h i (le-step l)))))
+  where
+    none : (b c e : Bool) → e ≡ false → bit b * bit (c && e) ≡ 0
+    none true true e z = ap (λ (x : Bool). 1 * bit x) z
+    none true false e z = refl
+    none false true e z = ap (λ (x : Bool). 0 * bit x) z
+    none false false e z = refl
+
+    here : (b c e : Bool) → e ≡ true → bit b * bit (c && e) ≡ bit (c && b)
+    here true true e z = ap (λ (x : Bool). 1 * bit x) z
+    here true false e z = refl
+    here false true e z = ap (λ (x : Bool). 0 * bit x) z
+    here false false e z = refl
+
+-- where each part is met once, the count is that of the parts
+pub by-part-once : (n k : ℕ) (a : ℕ → Bool) (d : ℕ → ℕ) (p : ℕ → Bool) → ((i : ℕ) → i < n → d i < k)
+    → ((q : ℕ) → q < k → count n (λ i. a i && eqb (d i) q) ≡ 1) → count n (λ i. a i && p (d i)) ≡ count k p
+by-part-once n k a d p h o =
+    by-part n k a d p h ∙ total-congr k _ _ (λ q l. ap (λ (x : ℕ). bit (p q) * x) (o q l) ∙ mul-one (bit (p q)))
+
+-- a count is kept when its places are renamed one to one
+pub count-renamed : (n : ℕ) (f : ℕ → ℕ) → Injective n f → ((i : ℕ) → i < n → f i < n) → (p : ℕ → Bool) → count n (λ i. p (f i)) ≡ count n p
+count-renamed n f inj into p = by-part-once n n (λ i. true) f p into (pigeonhole n f inj into)

@@ -1,0 +1,3 @@
+-- Laws of normal form.
+pub mod Testing
+pub mod Counting
