@@ -1,3 +1,6 @@
 -- Laws of normal form.
 pub mod Testing
 pub mod Counting
+pub mod Xor
+pub mod Sums
+pub mod Subsets
