@@ -4,3 +4,6 @@ pub mod Counting
 pub mod Xor
 pub mod Sums
 pub mod Subsets
+pub mod Transform
+pub mod Terms
+pub mod Passing

@@ -2,15 +2,15 @@
 use mathlib.Core.Path.{_≡_, refl, sym, ap, ap₂, _∙_}
 use mathlib.Core.Logic.{_⊎_, inl, inr, _≢_}
 use mathlib.Core.Bool.{Bool, true, false}
-use Prim.Native.Nat.{ℕ, zero, suc, _+_, _*_, _^_, _≤_, _<_}
-use native.Mathlib.Nat.{add-zero, add-suc, eq-or-lt-of-le, not-suc-le-zero, le-of-suc-le-suc}
+use Prim.Native.Nat.{ℕ, zero, suc, _+_, _*_, _/_, _%_, _^_, _≤_, _<_}
+use native.Mathlib.Nat.{zero-div, add-zero, add-suc, eq-or-lt-of-le, not-suc-le-zero, le-of-suc-le-suc}
 use native.Mathlib.Omega.{arith}
 use native.Mathlib.Numerals.{add-one}
 use lib.Pow.{pow-pos}
 use lib.Bits.{bitAnd, bitXor, xor-zero-r, xor-lt, and-zero-r}
 use Rattle.anf.specs.Tests.{pick}
 use Rattle.anf.specs.Sums.{xorBelow}
-use Rattle.anf.proofs.Xor.{xor-swap4, xor-assoc, and-xor}
+use Rattle.anf.proofs.Xor.{xor-swap4, xor-assoc, and-xor, xor-bit}
 
 pub xorBelow-ext : (n : ℕ) (f g : ℕ → ℕ) → ((i : ℕ) → i < n → f i ≡ g i) → xorBelow n f ≡ xorBelow n g
 unfolding xorBelow
@@ -62,6 +62,12 @@ unfolding xorBelow
 xorBelow-and zero m f = sym (and-zero-r m)
 xorBelow-and (suc n) m f = ap (λ (x : ℕ). bitXor x (bitAnd m (f n))) (xorBelow-and n m f) ∙ sym (and-xor m (xorBelow n f) (f n))
 
+-- bit b of a sum is the sum of the bits
+pub xorBelow-bit : (n b : ℕ) (f : ℕ → ℕ) → xorBelow n (λ i. f i / 2 ^ b % 2) ≡ xorBelow n f / 2 ^ b % 2
+unfolding xorBelow
+xorBelow-bit zero b f = sym (ap (λ (x : ℕ). x % 2) (zero-div (2 ^ b)))
+xorBelow-bit (suc n) b f = ap (λ (x : ℕ). bitXor x (f n / 2 ^ b % 2)) (xorBelow-bit n b f) ∙ sym (xor-bit (xorBelow n f) (f n) b)
+
 pub xorBelow-zero : (f : ℕ → ℕ) → xorBelow 0 f ≡ 0
 unfolding xorBelow
 xorBelow-zero f = refl
@@ -84,6 +90,10 @@ pick-zero false = refl
 pub pick-and : (b : Bool) (m x : ℕ) → pick b (bitAnd m x) 0 ≡ bitAnd m (pick b x 0)
 pick-and true m x = refl
 pick-and false m x = sym (and-zero-r m)
+
+pub pick-bit : (t : Bool) (b x : ℕ) → pick t (x / 2 ^ b % 2) 0 ≡ pick t x 0 / 2 ^ b % 2
+pick-bit true b x = refl
+pick-bit false b x = sym (ap (λ (y : ℕ). y % 2) (zero-div (2 ^ b)))
 
 pub pick-lt : (b : Bool) (x k : ℕ) → x < 2 ^ k → pick b x 0 < 2 ^ k
 pick-lt true x k h = h

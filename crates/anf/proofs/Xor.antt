@@ -6,7 +6,7 @@ use Prim.Native.Nat.{ℕ, zero, suc, _+_, _-_, _*_, _/_, _%_, _^_, _≤_, _<_, m
 use native.Mathlib.Nat.{mod-lt, zero-lt-suc, not-suc-le-zero, le-of-suc-le-suc, le-trans}
 use native.Mathlib.Omega.{arith}
 use lib.Arith.{bin-ind, digits-div, digits-mod}
-use lib.Bits.{bitAnd, bitXor, differ, xor-step, and-step, xor-comm, and-comm, xor-self, xor-zero-r, and-zero-r, and-self}
+use lib.Bits.{bitAnd, bitXor, differ, xor-step, and-step, xor-comm, and-comm, xor-self, xor-zero-r, and-zero-r, and-self, xor-shr, xor-mod, and-shr, and-mod}
 
 -- case analysis on the lowest bit
 pub bit-cases : (P : ℕ → Type 0) → P 0 → P 1 → (n : ℕ) → P (n % 2)
@@ -90,3 +90,10 @@ xor-and a b c = and-comm (bitXor a b) c ∙ and-xor c a b ∙ ap₂ bitXor (and-
 
 pub xor-left-cancel : (a b c : ℕ) → bitXor a b ≡ bitXor a c → b ≡ c
 xor-left-cancel a b c e = sym (xor-cancel a b) ∙ ap (bitXor a) e ∙ xor-cancel a c
+
+-- bit k of a sum
+pub xor-bit : (a b k : ℕ) → bitXor a b / 2 ^ k % 2 ≡ bitXor (a / 2 ^ k % 2) (b / 2 ^ k % 2)
+xor-bit a b k = ap (λ (x : ℕ). x % 2) (xor-shr a b k) ∙ xor-mod (a / 2 ^ k) (b / 2 ^ k) 1
+
+pub and-bit : (a b k : ℕ) → bitAnd a b / 2 ^ k % 2 ≡ bitAnd (a / 2 ^ k % 2) (b / 2 ^ k % 2)
+and-bit a b k = ap (λ (x : ℕ). x % 2) (and-shr a b k) ∙ and-mod (a / 2 ^ k) (b / 2 ^ k) 1
