@@ -1,3 +1,7 @@
 -- The design file.
 pub mod Limits
 pub mod Design
+pub mod Bytes
+pub mod Encode
+pub mod Reading
+pub mod Layout

@@ -1,1 +1,79 @@
-// The design file.
+// The design file: the head and its limits, reading, what a file that reads holds, and the leaves of writing.
+mod bytes; // bytes.rt: numbers in a file
+mod terms; // terms.rt: lists of terms as they stand in a file
+mod reader; // reader.rt: the tests of each record, and the walk over all
+mod parts; // parts.rt: the tables and lists of a file that reads
+mod writer; // writer.rt: a record's head, a run of bytes, a term
+
+pub use parts::box_entry;
+pub use parts::box_table;
+pub use parts::entry;
+pub use parts::list;
+pub use parts::table;
+pub use reader::read;
+pub use terms::count;
+pub use terms::stands_before;
+pub use terms::term;
+pub use terms::value;
+ghost use mathlib.Core.Path.{_≡_};
+ghost use Rattle.design.specs.Layout.{checked};
+
+// The head's three numbers.
+pub struct Head {
+    pub m: usize,
+    pub s: usize,
+    pub k: usize,
+}
+
+pub enum Checked {
+    Good(Head),
+    Beyond,
+}
+
+impl Head {
+    pub const GREATEST_WIDTH: usize = 6;
+
+    pub const LEAST_SHARES: usize = 3;
+
+    pub const GREATEST_SHARES: usize = 5;
+
+    pub const GREATEST_SHARE_BITS: usize = 20;
+
+    pub const GREATEST_STAGES: usize = 4;
+
+    // The head of these numbers, if none breaks a limit.
+    pub fn new(m: usize, s: usize, k: usize) -> Checked
+        ensures { λ r. ⌜ r ≡ checked m s k ⌝ }
+    {
+        if m < 1 {
+            return Checked::Beyond;
+        }
+        if Head::GREATEST_WIDTH < m {
+            return Checked::Beyond;
+        }
+        if s < Head::LEAST_SHARES {
+            return Checked::Beyond;
+        }
+        if Head::GREATEST_SHARES < s {
+            return Checked::Beyond;
+        }
+        if Head::GREATEST_SHARE_BITS < m * s {
+            return Checked::Beyond;
+        }
+        if k < 1 {
+            return Checked::Beyond;
+        }
+        if Head::GREATEST_STAGES < k {
+            return Checked::Beyond;
+        }
+        Checked::Good(Head { m, s, k })
+    }
+}
+
+// What reading finds: the reason and the place of a refusal, or 0 and where each record's body starts. A file has at most 87 records.
+pub struct Layout {
+    pub reason: usize,
+    pub place: usize,
+    pub head: Head,
+    pub starts: [usize; 88],
+}

@@ -1,0 +1,9 @@
+-- Laws of the design file.
+pub mod Limits
+pub mod Records
+pub mod Walking
+pub mod Found
+pub mod Flat
+pub mod Joined
+pub mod Written
+pub mod TermBytes

@@ -1,0 +1,48 @@
+-- What a head within the limits says: the limits as inequalities, one by one, and what follows for products.
+use Prim.Native.Nat.{ℕ, _+_, _*_, _≤_}
+use mathlib.Core.Path.{_≡_}
+use mathlib.Core.Bool.{Bool, false}
+use native.Mathlib.Omega.{arith}
+use native.Mathlib.Nat.{mul-le-mul}
+use borrow.Author.Tests.{ltb-false}
+use Rattle.design.specs.Limits.{greatestWidth, leastShares, greatestShares, greatestShareBits, greatestStages, broken}
+use Rattle.anf.proofs.Testing.{or-false}
+
+pub record Bounds (m s k : ℕ) : Type 0 where
+  pub m-low : 1 ≤ m
+  pub m-high : m ≤ greatestWidth
+  pub s-low : leastShares ≤ s
+  pub s-high : s ≤ greatestShares
+  pub bits-low : leastShares ≤ m * s
+  pub bits : m * s ≤ greatestShareBits
+  pub k-low : 1 ≤ k
+  pub k-high : k ≤ greatestStages
+
+pub product : {m s : ℕ} → m ≤ greatestWidth → s ≤ greatestShares → m * s ≤ greatestWidth * greatestShares
+product p q = mul-le-mul p q
+
+-- k stages of a table and b lists each
+pub records : {k b : ℕ} → k ≤ greatestStages → b ≤ greatestShareBits → k * (1 + b) ≤ 84
+records {k} {b} p q = mul-le-mul {n₁ = k} {m₁ = 1 + b} {n₂ = 4} {m₂ = 21} p (omega arith)
+
+pub bounds : (m s k : ℕ) → broken m s k ≡ false → Bounds m s k
+unfolding broken
+bounds m s k e =
+    let a = or-false _ _ e in
+    let b = or-false _ _ (a .0) in
+    let c = or-false _ _ (b .0) in
+    let d = or-false _ _ (c .0) in
+    let f = or-false _ _ (d .0) in
+    let g = or-false _ _ (f .0) in
+    let m-low = ltb-false _ _ (g .0) in
+    let s-low = ltb-false _ _ (f .1) in
+    record {
+      m-low = m-low;
+      m-high = ltb-false _ _ (g .1);
+      s-low = s-low;
+      s-high = ltb-false _ _ (d .1);
+      bits-low = mul-le-mul {n₁ = 1} {m₁ = leastShares} {n₂ = m} {m₂ = s} m-low s-low;
+      bits = ltb-false _ _ (c .1);
+      k-low = ltb-false _ _ (b .1);
+      k-high = ltb-false _ _ (a .1);
+    }

@@ -1,0 +1,192 @@
+-- Laws of the walk over the records: a step, a refusal, the end, and what the reader's loop keeps.
+use Prim.Native.Nat.{ℕ, zero, suc, _+_, _*_, _-_, _/_, _%_, _^_, _≤_, _<_}
+use mathlib.Core.Path.{_≡_, refl, sym, ap, _∙_}
+use mathlib.Core.List.{List, [], _∷_}
+use mathlib.Core.Bool.{Bool, true, false}
+use native.Mathlib.Omega.{arith}
+use native.Mathlib.Decide.{decLt}
+use native.Mathlib.Nat.{sub-zero}
+use native.Mathlib.Numerals.{add-one}
+use borrow.Author.Tests.{ltb-true, ltb-false, leb-true, leb-false, eqb-true, eqb-false, lt-ltb, le-ltb, le-leb, lt-leb, eq-eqb, ne-eqb}
+use lib.ListN.{length, getD, take, drop, set, length-set}
+use lib.Seq.{getD-set-same, getD-set-other}
+use lib.Dec.{ltb, leb, eqb, lit<}
+use Rattle.anf.specs.Tests.{pick, all, tabulate}
+use Rattle.design.specs.Bytes.{byte, u16At, u32At}
+use Rattle.design.specs.Layout.{checked, Limits, Answers, Describes}
+use Rattle.design.specs.Limits.{broken}
+use Rattle.design.specs.Reading.{lastOf, numberOf, kindDue, sizeDue, lengthDue, frame, body, faultAt, Reading, refused, means, reading, walk, place, headOf, meaning, reasonOf, placeOf}
+use Rattle.design.specs.declared.Head.{Head}
+use Rattle.design.specs.declared.Layout.{Layout}
+use Rattle.design.specs.declared.Checked.{Checked}
+use Rattle.design.specs.declared.Checked.the-variants.{Good, Beyond}
+use Rattle.design.proofs.Records.{Framed, framed, fault-frame, fault-body}
+
+-- a record without fault has none in its frame, and none in its body
+module _ (f : List ℕ) (h : Head) (i at : ℕ) (e : faultAt f h i at ≡ 0) where
+  pub frame-none : frame f at (kindDue h i) (sizeDue h (kindDue h i)) ≡ 0
+  unfolding faultAt
+  frame-none = go (frame f at (kindDue h i) (sizeDue h (kindDue h i))) (body f h (kindDue h i) (at + 4) (u16At f at)) _ refl e
+    where
+      go : (r d : ℕ) (b : Bool) → eqb r 0 ≡ b → pick b d r ≡ 0 → r ≡ 0
+      go r d true q e = eqb-true r 0 q
+      go r d false q e = e
+
+  pub body-none : body f h (kindDue h i) (at + 4) (u16At f at) ≡ 0
+  body-none = sym (fault-body f h i at _ _ refl refl frame-none) ∙ e
+
+  pub fault-framed : Framed f at (kindDue h i) (sizeDue h (kindDue h i))
+  fault-framed = framed f at (kindDue h i) (sizeDue h (kindDue h i)) frame-none
+
+module _ (f : List ℕ) (h : Head) (n i at : ℕ) where
+  pub walk-next : i < n → faultAt f h i at ≡ 0 → walk f h (n - i) i at ≡ walk f h (n - (i + 1)) (i + 1) (at + 4 + u16At f at)
+  unfolding walk
+  walk-next l e =
+      let s : n - i ≡ suc (n - (i + 1)) = omega arith in
+      rw s (simp (e, add-one))
+
+  pub walk-stop : i < n → (faultAt f h i at ≡ 0 → ⊥) → walk f h (n - i) i at ≡ refused (faultAt f h i at) at
+  unfolding walk
+  walk-stop l e =
+      let s : n - i ≡ suc (n - (i + 1)) = omega arith in
+      rw s (simp (ne-eqb _ _ e))
+
+  pub walk-over : n ≤ i → at < length f → walk f h (n - i) i at ≡ refused 7 at
+  unfolding walk
+  walk-over l e =
+      let s : n - i ≡ 0 = omega arith in
+      rw s (simp (lt-ltb _ _ e))
+
+  pub walk-done : n ≤ i → length f ≤ at → walk f h (n - i) i at ≡ means (meaning f)
+  unfolding walk
+  walk-done l e =
+      let s : n - i ≡ 0 = omega arith in
+      rw s (simp (le-ltb _ _ e))
+
+pub place-next : (f : List ℕ) (i : ℕ) → place f (i + 1) ≡ place f i + 4 + u16At f (place f i)
+unfolding place
+place-next f i = rw add-one
+
+-- what the reader's loop keeps at record i, which starts at `at`
+pub record Walked (f : List ℕ) (h : Head) (n : ℕ) (starts : List ℕ) (i at : ℕ) : Type 0 where
+  pub from : 1 ≤ i
+  pub to : i ≤ n
+  pub within : at ≤ length f
+  pub here : at ≡ place f i
+  pub room : length starts ≡ 88
+  pub before : (j : ℕ) → j < i → getD starts j 0 ≡ place f j + 4
+  pub rest : reading f ≡ walk f h (n - i) i at
+
+pub starts-more : (f starts : List ℕ) (i at : ℕ) → i < length starts → at ≡ place f i → ((j : ℕ) → j < i → getD starts j 0 ≡ place f j + 4) →
+    (j : ℕ) → j < i + 1 → getD (set starts i (at + 4)) j 0 ≡ place f j + 4
+starts-more f starts i at l p b j h = go (decLt j i)
+  where
+    go : Dec (j < i) → getD (set starts i (at + 4)) j 0 ≡ place f j + 4
+    go (yes q) = getD-set-other starts i j (at + 4) 0 (omega arith) ∙ b j q
+    go (no q) = let e : j ≡ i = omega arith in rw e (getD-set-same starts i (at + 4) 0 l ∙ ap (λ (x : ℕ). x + 4) p)
+
+pub answers-refused : (f : List ℕ) (l : Layout) (r p : ℕ) → reading f ≡ refused r p → l .reason ≡ r → l .place ≡ p → (r ≡ 0 → ⊥) → Answers f l
+answers-refused f l r p e a b n = record { reason = rw e a; place = rw e b; layout = λ z. absurd (n (sym a ∙ z)) }
+
+pub answers-means : (f : List ℕ) (l : Layout) → reading f ≡ means (meaning f) → l .reason ≡ 0 → l .place ≡ 0 → l .head ≡ headOf f →
+    ((i : ℕ) → i < lastOf (headOf f) + 1 → getD (l .starts) i 0 ≡ place f i + 4) → Answers f l
+answers-means f l e a b h s = record { reason = rw e a; place = rw e b; layout = λ z. record { read = e; head = h; starts = s } }
+
+start-walk : (f : List ℕ) → reading f ≡ walk f (headOf f) (lastOf (headOf f) + 1 - 0) 0 0
+unfolding reading
+start-walk f = rw sub-zero
+
+-- the head record
+module _ (f : List ℕ) where
+  pub head-size : frame f 0 1 3 ≡ 0 → (u16At f 0 ≡ 3) × (7 ≤ length f)
+  unfolding lengthDue
+  head-size e =
+      let w = framed f 0 1 3 e in
+      let s : u16At f 0 ≡ 3 = eqb-true _ _ (w .size) in
+      (s, omega arith)
+
+  head-kind : (h : Head) → 1 ≡ kindDue h 0
+  unfolding kindDue
+  head-kind h = refl
+
+  head-due : (h : Head) → 3 ≡ sizeDue h 1
+  unfolding sizeDue
+  head-due h = refl
+
+  pub head-cut : (frame f 0 1 3 ≡ 0 → ⊥) → reading f ≡ refused (frame f 0 1 3) 0
+  head-cut e =
+      let q : faultAt f (headOf f) 0 0 ≡ frame f 0 1 3 = fault-frame f (headOf f) 0 0 1 3 (head-kind _) (head-due _) e in
+      start-walk f ∙ walk-stop f (headOf f) (lastOf (headOf f) + 1) 0 0 (omega arith) (λ z. e (sym q ∙ z)) ∙ ap (λ (r : ℕ). refused r 0) q
+
+  pub head-body : frame f 0 1 3 ≡ 0 → faultAt f (headOf f) 0 0 ≡ pick (broken (byte f 4) (byte f 5) (byte f 6)) 4 0
+  unfolding body
+  head-body e = fault-body f (headOf f) 0 0 1 3 (head-kind _) (head-due _) e
+
+  pub head-beyond : frame f 0 1 3 ≡ 0 → broken (byte f 4) (byte f 5) (byte f 6) ≡ true → reading f ≡ refused 4 0
+  head-beyond e b =
+      let q : faultAt f (headOf f) 0 0 ≡ 4 = head-body e ∙ simp b in
+      start-walk f ∙ walk-stop f (headOf f) (lastOf (headOf f) + 1) 0 0 (omega arith) (λ z. omega (arith, q, z)) ∙ ap (λ (r : ℕ). refused r 0) q
+
+  pub head-good : frame f 0 1 3 ≡ 0 → broken (byte f 4) (byte f 5) (byte f 6) ≡ false → faultAt f (headOf f) 0 0 ≡ 0
+  head-good e b = head-body e ∙ simp b
+
+  -- where the walk stands after the head
+  pub head-next : faultAt f (headOf f) 0 0 ≡ 0 → (7 ≤ length f) × (place f 1 ≡ 7) × (reading f ≡ walk f (headOf f) (lastOf (headOf f) + 1 - 1) 1 7)
+  unfolding place kindDue sizeDue lengthDue
+  head-next e =
+      let w = fault-framed f (headOf f) 0 0 e in
+      let s : u16At f 0 ≡ 3 = eqb-true _ _ (w .size) in
+      (omega arith, place-next f 0 ∙ simp s, start-walk f ∙ walk-next f (headOf f) (lastOf (headOf f) + 1) 0 0 (omega arith) e ∙ simp s)
+
+module _ (f : List ℕ) (h : Head) (n : ℕ) (starts : List ℕ) where
+  -- where the loop begins, after the head
+  pub walked-first : h ≡ headOf f → faultAt f h 0 0 ≡ 0 → n ≡ lastOf h + 1 → length starts ≡ 88 → getD starts 0 0 ≡ 4 → Walked f h n starts 1 7
+  unfolding place
+  walked-first q e m l s =
+      let z = head-next f (rw q at e) in
+      record {
+        from = omega arith;
+        to = omega arith;
+        within = z .0;
+        here = sym (z .1);
+        room = l;
+        before = λ j t. let d : j ≡ 0 = omega arith in rw d s;
+        rest = rw (m, q) (z .2);
+      }
+
+  module _ (i at : ℕ) (w : Walked f h n starts i at) where
+    -- a turn
+    pub walked-more : i < n → n ≤ 88 → faultAt f h i at ≡ 0 → Walked f h n (set starts i (at + 4)) (i + 1) (at + 4 + u16At f at)
+    walked-more l m e =
+        let r = fault-framed f h i at e in
+        record {
+          from = omega arith;
+          to = omega arith;
+          within = r .rest;
+          here = rw (w .here) (sym (place-next f i));
+          room = length-set starts i (at + 4) ∙ w .room;
+          before = starts-more f starts i at (omega arith) (w .here) (w .before);
+          rest = w .rest ∙ walk-next f h n i at l e;
+        }
+
+    -- after the last turn
+    pub walked-last : h ≡ headOf f → n ≡ lastOf h + 1 → n ≤ i → (j : ℕ) → j < lastOf (headOf f) + 1 → getD starts j 0 ≡ place f j + 4
+    walked-last q m l j t = w .before j (let s : lastOf h ≡ lastOf (headOf f) = ap lastOf q in omega arith)
+
+-- what the constructor's answer says of the file's head
+module _ (f : List ℕ) (r : Checked) (m s k : ℕ) (z : frame f 0 1 3 ≡ 0) (p : m ≡ byte f 4) (q : s ≡ byte f 5) (t : k ≡ byte f 6) (e : r ≡ checked m s k) where
+  read-good : (h : Head) (b : Bool) → broken (byte f 4) (byte f 5) (byte f 6) ≡ b → pick b Beyond (Good (headOf f)) ≡ Good h → Limits h × (h ≡ headOf f) × (faultAt f h 0 0 ≡ 0)
+  read-good h true l g = let w : _≡_ {A = ℕ} 0 1 = cc in absurd (omega arith)
+  read-good h false l g =
+      let w : h ≡ headOf f = cc in
+      (rw w l, w, rw w (head-good f z l))
+
+  pub good-head : (h : Head) → r ≡ Good h → Limits h × (h ≡ headOf f) × (faultAt f h 0 0 ≡ 0)
+  good-head h g = read-good h _ refl (rw (p, q, t) at (sym e ∙ g))
+
+  read-beyond : (b : Bool) → pick b Beyond (Good (headOf f)) ≡ Beyond → b ≡ true
+  read-beyond true g = refl
+  read-beyond false g = let w : _≡_ {A = ℕ} 0 1 = cc in absurd (omega arith)
+
+  pub beyond-head : r ≡ Beyond → reading f ≡ refused 4 0
+  beyond-head g = head-beyond f z (read-beyond _ (rw (p, q, t) at (sym e ∙ g)))

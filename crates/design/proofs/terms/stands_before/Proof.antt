@@ -1,0 +1,12 @@
+-- `design::stands_before` meets its contract.
+use Rattle.anf.specs.Terms.{before}
+use mathlib.Core.Path.{_≡_, refl, sym, ap, _∙_}
+use Rattle.design.proofs.terms.stands_before.Statement.{statement}
+use Rattle.design.proofs.terms.stands_before.Tie as tie
+
+returns : tie.Need-returns
+unfolding before
+returns c = refl
+
+pub stands-before-spec : {M : Type 1} → statement M
+stands-before-spec = tie.close (tie.spec returns)

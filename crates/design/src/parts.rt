@@ -1,0 +1,80 @@
+// The tables and the lists of a file that reads, as parts of the file. Stages and lists are counted from 0.
+use super::Head;
+use super::Layout;
+use super::bytes::pair;
+use super::bytes::power;
+ghost use mathlib.Core.Path.{_≡_};
+ghost use Prim.Native.Nat.{_*_, _^_, _≤_, _<_};
+ghost use lib.ListN.{getD};
+ghost use Rattle.design.specs.Bytes.{termBytes};
+ghost use Rattle.design.specs.Design.{stageOf, listOf};
+ghost use Rattle.design.specs.Design.{entry as entryOf};
+ghost use Rattle.design.specs.Reading.{lastOf, numberOf, meaning};
+ghost use Rattle.design.specs.Layout.{Limits, Describes};
+
+// The number of a record of stage `t`: its table at `l` 0, its lists from 1 on.
+fn number(h: Head, t: usize, l: usize) -> usize
+    requires { ⌜ Limits h × (t < h .k) × (l ≤ h .m * h .s) ⌝ }
+    ensures { λ r. ⌜ (r ≡ numberOf h t l) × (r < lastOf h) × (r < 88) ⌝ }
+{
+    2 + t * (1 + h.m * h.s) + l
+}
+
+// Where the body of record `i` starts.
+fn start(layout: Layout, i: usize) -> usize
+    requires { ⌜ i < 88 ⌝ }
+    ensures { λ r. ⌜ r ≡ getD (layout .starts) i 0 ⌝ }
+{
+    layout.starts[i]
+}
+
+// The box S.
+pub fn box_table(file: &[u8], layout: Layout) -> &[u8]
+    requires { ⌜ Describes (now file) layout ⌝ }
+    ensures { λ r. ⌜ now r ≡ meaning (now (file .entry)) .box ⌝ }
+{
+    let from = start(layout, 1);
+    let n = power(layout.head.m);
+    &file[from..from + n]
+}
+
+// Entry `x` of the box S.
+pub fn box_entry(file: &[u8], layout: Layout, x: usize) -> u8
+    requires { ⌜ Describes (now file) layout × (x < 2 ^ layout .head .m) ⌝ }
+    ensures { λ r. ⌜ r ≡ entryOf (meaning (now (file .entry)) .box) x ⌝ }
+{
+    let from = start(layout, 1);
+    file[from + x]
+}
+
+// The table of stage `t`.
+pub fn table(file: &[u8], layout: Layout, t: usize) -> &[u8]
+    requires { ⌜ Describes (now file) layout × (t < layout .head .k) ⌝ }
+    ensures { λ r. ⌜ now r ≡ stageOf (meaning (now (file .entry))) t .table ⌝ }
+{
+    let i = number(layout.head, t, 0);
+    let from = start(layout, i);
+    let n = power(layout.head.m);
+    &file[from..from + n]
+}
+
+// Entry `x` of the table of stage `t`.
+pub fn entry(file: &[u8], layout: Layout, t: usize, x: usize) -> u8
+    requires { ⌜ Describes (now file) layout × (t < layout .head .k) × (x < 2 ^ layout .head .m) ⌝ }
+    ensures { λ r. ⌜ r ≡ entryOf (stageOf (meaning (now (file .entry))) t .table) x ⌝ }
+{
+    let i = number(layout.head, t, 0);
+    let from = start(layout, i);
+    file[from + x]
+}
+
+// The bytes of list `l` of stage `t`.
+pub fn list(file: &[u8], layout: Layout, t: usize, l: usize) -> &[u8]
+    requires { ⌜ Describes (now file) layout × (t < layout .head .k) × (l < layout .head .m * layout .head .s) ⌝ }
+    ensures { λ r. ⌜ now r ≡ termBytes (listOf (meaning (now (file .entry))) t l) ⌝ }
+{
+    let i = number(layout.head, t, l + 1);
+    let from = start(layout, i);
+    let n = pair(file, from - 4);
+    &file[from..from + n]
+}
