@@ -1,0 +1,5 @@
+-- Laws of sharings, stages and chains.
+pub mod Sharing
+pub mod Output
+pub mod Carried
+pub mod Tests

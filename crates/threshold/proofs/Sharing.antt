@@ -1,0 +1,201 @@
+-- A sharing is its share j and its setting of component j, and its sum is the xor of that share and the sum of the setting.
+-- Shares stand at the places of powers of 2; only the sum over the shares needs induction. Assumes nothing.
+use mathlib.Core.Path.{_≡_, refl, sym, ap, ap₂, _∙_, subst}
+use mathlib.Core.Bool.{Bool, true, false, _&&_}
+use mathlib.Core.Logic.{_≢_}
+use Prim.Native.Nat.{ℕ, zero, suc, _+_, _-_, _*_, _/_, _%_, _^_, _≤_, _<_}
+use native.Mathlib.Nat.{le-of-suc-le-suc, not-suc-le-zero, mul-zero, mul-suc, div-one, mod-one, mul-one, add-zero, mul-comm, mul-assoc, mul-add, div-div-eq-div-mul, mod-lt, div-add-mod', add-mul, add-assoc, add-sub-of-le, div-lt-iff-lt-mul, add-comm}
+use native.Mathlib.Omega.{arith}
+use lib.Arith.{digits-lt, digits-div, digits-mod, mod-mul, lt-one}
+use lib.Pow.{pow-pos, pow-add}
+use lib.Bits.{bitXor, xor-zero-r, xor-lt, xor-self}
+use lib.Dec.{eqb}
+use borrow.Author.Tests.{eqb-true, eq-eqb}
+use Rattle.anf.specs.Tests.{count}
+use Rattle.anf.specs.Sums.{xorBelow}
+use Rattle.anf.proofs.Testing.{and-intro, and-left, and-right}
+use Rattle.anf.proofs.Counting.{count-one}
+use Rattle.anf.proofs.Xor.{xor-assoc, xor-left-comm}
+use Rattle.anf.proofs.Sums.{xorBelow-ext, xorBelow-lt}
+use Rattle.threshold.specs.Sharing.{share, sum, setting, putShare, withShare}
+
+-- ---- the places of shares
+
+pub pow-step : (w j : ℕ) → 2 ^ (w * suc j) ≡ 2 ^ (w * j) * 2 ^ w
+pow-step w j = ap (λ (x : ℕ). 2 ^ x) (mul-suc w j) ∙ pow-add 2 (w * j) w
+
+pub pow-zeroth : (w : ℕ) → 2 ^ (w * 0) ≡ 1
+pow-zeroth w = ap (λ (x : ℕ). 2 ^ x) (mul-zero w)
+
+-- share 0 is the low part; the others are the shares of the rest
+pub share-zero : (w σ : ℕ) → share w 0 σ ≡ σ % 2 ^ w
+unfolding share
+share-zero w σ = ap (λ (x : ℕ). σ / x % 2 ^ w) (pow-zeroth w) ∙ ap (λ (x : ℕ). x % 2 ^ w) (div-one σ)
+
+div-step : (w j σ : ℕ) → σ / 2 ^ (w * suc j) ≡ σ / 2 ^ w / 2 ^ (w * j)
+div-step w j σ =
+    ap (λ (x : ℕ). σ / x) (pow-step w j ∙ mul-comm (2 ^ (w * j)) (2 ^ w)) ∙ sym (div-div-eq-div-mul σ (2 ^ w) (2 ^ (w * j)))
+
+mod-step : (w j σ : ℕ) → σ % 2 ^ (w * suc j) ≡ σ / 2 ^ w % 2 ^ (w * j) * 2 ^ w + σ % 2 ^ w
+mod-step w j σ = ap (λ (x : ℕ). σ % x) (pow-step w j) ∙ mod-mul σ (pow-pos (w * j)) (pow-pos w)
+
+pub share-suc : (w j σ : ℕ) → share w (suc j) σ ≡ share w j (σ / 2 ^ w)
+unfolding share
+share-suc w j σ = ap (λ (x : ℕ). x % 2 ^ w) (div-step w j σ)
+
+setting-zero : (w σ : ℕ) → setting w 0 σ ≡ σ / 2 ^ w
+unfolding setting
+setting-zero w σ = simp (pow-zeroth, div-one, mod-one, mul-one, add-zero)
+
+setting-suc : (w j σ : ℕ) → setting w (suc j) σ ≡ setting w j (σ / 2 ^ w) * 2 ^ w + σ % 2 ^ w
+unfolding setting
+setting-suc w j σ = simp (div-step, mod-step) (simp (pow-step, add-mul, mul-assoc, add-assoc))
+
+-- ---- the sum
+
+xorBelow-head : (n : ℕ) (f : ℕ → ℕ) → xorBelow (suc n) f ≡ bitXor (f 0) (xorBelow n (λ i. f (suc i)))
+unfolding xorBelow
+xorBelow-head zero f = sym (xor-zero-r (f 0))
+xorBelow-head (suc n) f =
+    ap (λ (x : ℕ). bitXor x (f (suc n))) (xorBelow-head n f) ∙ xor-assoc (f 0) (xorBelow n (λ i. f (suc i))) (f (suc n))
+
+-- the lowest share, and the sum of the others
+pub sum-suc : (w s σ : ℕ) → sum w (suc s) σ ≡ bitXor (σ % 2 ^ w) (sum w s (σ / 2 ^ w))
+unfolding sum
+sum-suc w s σ =
+    xorBelow-head s (λ j. share w j σ)
+    ∙ ap₂ bitXor (share-zero w σ) (xorBelow-ext s (λ j. share w (suc j) σ) (λ j. share w j (σ / 2 ^ w)) (λ j l. share-suc w j σ))
+
+pub share-lt : (w j σ : ℕ) → share w j σ < 2 ^ w
+unfolding share
+share-lt w j σ = mod-lt (σ / 2 ^ (w * j)) (pow-pos w)
+
+pub sum-lt : (w s σ : ℕ) → sum w s σ < 2 ^ w
+unfolding sum
+sum-lt w s σ = xorBelow-lt s w (λ j. share w j σ) (λ j l. share-lt w j σ)
+
+-- the sum of what components give is the sum of the output, whose shares those are
+pub sum-shares : (w s σ : ℕ) → sum w s σ ≡ xorBelow s (λ j. share w j σ)
+unfolding sum
+sum-shares w s σ = refl
+
+-- the sum is share j and the sum of the setting
+pub sum-setting : (w s j σ : ℕ) → j ≤ s → sum w (suc s) σ ≡ bitXor (share w j σ) (sum w s (setting w j σ))
+sum-setting w s zero σ h = sum-suc w s σ ∙ sym (ap₂ bitXor (share-zero w σ) (ap (sum w s) (setting-zero w σ)))
+sum-setting w zero (suc j) σ h = absurd (not-suc-le-zero h)
+sum-setting w (suc s) (suc j) σ h =
+    let l = mod-lt σ (pow-pos w) in
+    let d = setting w j (σ / 2 ^ w) in
+    sum-suc w (suc s) σ
+    ∙ ap (bitXor (σ % 2 ^ w)) (sum-setting w s j (σ / 2 ^ w) (le-of-suc-le-suc h))
+    ∙ xor-left-comm (σ % 2 ^ w) (share w j (σ / 2 ^ w)) (sum w s d)
+    ∙ sym (ap₂ bitXor (share-suc w j σ)
+    (ap (sum w (suc s)) (setting-suc w j σ) ∙ sum-suc w s (d * 2 ^ w + σ % 2 ^ w)
+    ∙ ap₂ (λ (x y : ℕ). bitXor x (sum w s y)) (digits-mod d l) (digits-div d l)))
+
+-- ---- a sharing is its share j and its setting
+
+module _ (w j : ℕ) where
+  part-div : (a r : ℕ) → (a * 2 ^ (w * j) + r % 2 ^ (w * j)) / 2 ^ (w * j) ≡ a
+  part-div a r = digits-div a (mod-lt r (pow-pos (w * j)))
+
+  part-mod : (a r : ℕ) → (a * 2 ^ (w * j) + r % 2 ^ (w * j)) % 2 ^ (w * j) ≡ r % 2 ^ (w * j)
+  part-mod a r = digits-mod a (mod-lt r (pow-pos (w * j)))
+
+  pub share-put : (v q : ℕ) → v < 2 ^ w → share w j (putShare w j v q) ≡ v
+  unfolding share putShare
+  share-put v q h = rw part-div (digits-mod (q / 2 ^ (w * j)) h)
+
+  pub setting-put : (v q : ℕ) → v < 2 ^ w → setting w j (putShare w j v q) ≡ q
+  unfolding setting putShare
+  setting-put v q h = rw (part-div, part-mod, digits-div (q / 2 ^ (w * j)) h) (div-add-mod' q (2 ^ (w * j)))
+
+  pub put-share-setting : (σ : ℕ) → putShare w j (share w j σ) (setting w j σ) ≡ σ
+  unfolding share setting putShare
+  put-share-setting σ =
+      rw (part-div, part-mod, div-add-mod' (σ / 2 ^ (w * j)) (2 ^ w)) (div-add-mod' σ (2 ^ (w * j)))
+
+  -- a share and a setting tell the sharing
+  pub share-and-setting : (σ τ : ℕ) → share w j σ ≡ share w j τ → setting w j σ ≡ setting w j τ → σ ≡ τ
+  share-and-setting σ τ e d = sym (put-share-setting σ) ∙ ap₂ (putShare w j) e d ∙ put-share-setting τ
+
+  -- a change of share j alone
+  pub share-with : (v σ : ℕ) → v < 2 ^ w → share w j (withShare w j v σ) ≡ v
+  share-with v σ h = share-put v (setting w j σ) h
+
+  pub setting-with : (v σ : ℕ) → v < 2 ^ w → setting w j (withShare w j v σ) ≡ setting w j σ
+  setting-with v σ h = setting-put v (setting w j σ) h
+
+  pub with-own : (σ : ℕ) → withShare w j (share w j σ) σ ≡ σ
+  with-own σ = put-share-setting σ
+
+  -- two sharings with one setting differ by a change of share j alone
+  pub with-other : (σ τ : ℕ) → setting w j σ ≡ setting w j τ → withShare w j (share w j τ) σ ≡ τ
+  with-other σ τ e = ap (putShare w j (share w j τ)) e ∙ put-share-setting τ
+
+-- the shares above place j, and those below it
+pow-split : (w s j : ℕ) → j ≤ s → 2 ^ (w * s) ≡ 2 ^ (w * (s - j)) * 2 ^ (w * j)
+pow-split w s j h =
+    ap (λ (x : ℕ). 2 ^ (w * x)) (sym (add-sub-of-le h) ∙ add-comm j (s - j)) ∙ ap (λ (x : ℕ). 2 ^ x) (mul-add w (s - j) j)
+    ∙ pow-add 2 (w * (s - j)) (w * j)
+
+pow-parts : (w s j : ℕ) → j ≤ s → 2 ^ (w * suc s) ≡ 2 ^ (w * (s - j)) * 2 ^ w * 2 ^ (w * j)
+pow-parts w s j h =
+    sym (mul-assoc (2 ^ (w * (s - j))) (2 ^ w) (2 ^ (w * j)) ∙ ap (λ (x : ℕ). 2 ^ (w * (s - j)) * x) (mul-comm (2 ^ w) (2 ^ (w * j)))
+    ∙ sym (mul-assoc (2 ^ (w * (s - j))) (2 ^ (w * j)) (2 ^ w)) ∙ ap (λ (x : ℕ). x * 2 ^ w) (sym (pow-split w s j h)) ∙ sym (pow-step w s))
+
+pub put-lt : (w s j v q : ℕ) → j ≤ s → v < 2 ^ w → q < 2 ^ (w * s) → putShare w j v q < 2 ^ (w * suc s)
+unfolding putShare
+put-lt w s j v q h hv hq =
+    subst (λ (x : ℕ). putShare w j v q < x) (sym (pow-parts w s j h))
+    (digits-lt (digits-lt (div-lt-iff-lt-mul (pow-pos (w * j)) .1 (subst (λ (x : ℕ). q < x) (pow-split w s j h) hq)) hv) (mod-lt q (pow-pos (w * j))))
+
+pub setting-lt : (w s j σ : ℕ) → j ≤ s → σ < 2 ^ (w * suc s) → setting w j σ < 2 ^ (w * s)
+unfolding setting
+setting-lt w s j σ h l =
+    subst (λ (x : ℕ). setting w j σ < x) (sym (pow-split w s j h))
+    (digits-lt
+    (div-lt-iff-lt-mul (pow-pos w) .1 (div-lt-iff-lt-mul (pow-pos (w * j)) .1 (subst (λ (x : ℕ). σ < x) (pow-parts w s j h) l)))
+    (mod-lt σ (pow-pos (w * j))))
+
+pub with-lt : (w s j v σ : ℕ) → j < s → v < 2 ^ w → σ < 2 ^ (w * s) → withShare w j v σ < 2 ^ (w * s)
+with-lt w zero j v σ h hv l = absurd (not-suc-le-zero h)
+with-lt w (suc s) j v σ h hv l =
+    put-lt w s j v (setting w j σ) (le-of-suc-le-suc h) hv (setting-lt w s j σ (le-of-suc-le-suc h) l)
+
+-- a sharing is told by its shares
+pub shares-eq : (w s σ τ : ℕ) → σ < 2 ^ (w * s) → τ < 2 ^ (w * s) → ((j : ℕ) → j < s → share w j σ ≡ share w j τ) → σ ≡ τ
+shares-eq w zero σ τ lσ lτ h =
+    lt-one (subst (λ (x : ℕ). σ < x) (pow-zeroth w) lσ) ∙ sym (lt-one (subst (λ (x : ℕ). τ < x) (pow-zeroth w) lτ))
+shares-eq w (suc s) σ τ lσ lτ h =
+    let half : (ρ : ℕ) → ρ < 2 ^ (w * suc s) → ρ / 2 ^ w < 2 ^ (w * s) =
+    λ ρ l. div-lt-iff-lt-mul (pow-pos w) .1 (subst (λ (x : ℕ). ρ < x) (pow-step w s) l) in
+    let low : σ % 2 ^ w ≡ τ % 2 ^ w = sym (share-zero w σ) ∙ h 0 (omega arith) ∙ share-zero w τ in
+    let high : σ / 2 ^ w ≡ τ / 2 ^ w =
+    shares-eq w s (σ / 2 ^ w) (τ / 2 ^ w) (half σ lσ) (half τ lτ)
+    (λ j l. sym (share-suc w j σ) ∙ h (suc j) (omega arith) ∙ share-suc w j τ) in
+    sym (div-add-mod' σ (2 ^ w)) ∙ ap₂ (λ (a b : ℕ). a * 2 ^ w + b) high low ∙ div-add-mod' τ (2 ^ w)
+
+-- ---- a value x and a setting q: exactly one sharing has both
+
+xor-back : (a r : ℕ) → bitXor (bitXor a r) r ≡ a
+xor-back a r = xor-assoc a r r ∙ ap (bitXor a) (xor-self r) ∙ xor-zero-r a
+
+pub one-sharing : (w s j x q : ℕ) → j ≤ s → x < 2 ^ w → q < 2 ^ (w * s)
+    → count (2 ^ (w * suc s)) (λ σ. eqb (sum w (suc s) σ) x && eqb (setting w j σ) q) ≡ 1
+one-sharing w s j x q h hx hq =
+    let r = sum w s q in
+    let v = bitXor x r in
+    let hv = xor-lt w x r hx (sum-lt w s q) in
+    let k = putShare w j v q in
+    let dk = setting-put w j v q hv in
+    count-one (2 ^ (w * suc s)) (λ σ. eqb (sum w (suc s) σ) x && eqb (setting w j σ) q) k (put-lt w s j v q h hv hq)
+    (and-intro
+    (eq-eqb _ _ (sum-setting w s j k h ∙ ap₂ (λ (a b : ℕ). bitXor a (sum w s b)) (share-put w j v q hv) dk ∙ xor-back x r))
+    (eq-eqb _ _ dk))
+    (λ σ l e.
+    let eσ = eqb-true (sum w (suc s) σ) x (and-left (eqb (sum w (suc s) σ) x) (eqb (setting w j σ) q) e) in
+    let dσ = eqb-true (setting w j σ) q (and-right (eqb (sum w (suc s) σ) x) (eqb (setting w j σ) q) e) in
+    let vσ : share w j σ ≡ v =
+    sym (xor-back (share w j σ) r) ∙ ap (λ (a : ℕ). bitXor a r) (ap (λ (b : ℕ). bitXor (share w j σ) (sum w s b)) (sym dσ) ∙ sym (sum-setting w s j σ h) ∙ eσ) in
+    sym (put-share-setting w j σ) ∙ ap₂ (putShare w j) vσ dσ)

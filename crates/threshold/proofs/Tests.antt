@@ -1,0 +1,92 @@
+-- Each test of a stage means its proposition: the test passes exactly when the proposition holds. A test that fails has a place where it does.
+-- Assumes nothing.
+use mathlib.Core.Path.{_≡_, refl, sym, ap, ap₂, _∙_, subst}
+use mathlib.Core.Logic.{_↔_, _≢_}
+use mathlib.Core.Bool.{Bool, true, false, _&&_, not}
+use mathlib.Core.List.{List}
+use Prim.Native.Nat.{ℕ, zero, suc, _+_, _*_, _^_, _<_}
+use lib.Dec.{eqb}
+use borrow.Author.Tests.{eqb-true, eqb-false, eq-eqb, ne-eqb, not-true, not-false}
+use Rattle.anf.specs.Tests.{all, any, count, implies}
+use Rattle.anf.specs.Sums.{xorBelow}
+use Rattle.anf.proofs.Testing.{all-at, all-intro, any-at, any-some, any-none, none-any, implies-at, implies-intro, and-intro, and-left, and-right, clash, not-true-false, true-or-false}
+use Rattle.design.specs.Design.{Stage, entry}
+use Rattle.threshold.specs.Sharing.{share, sum, withShare}
+use Rattle.threshold.specs.Stages.{output, component, Correct, Ignores, NonComplete, ExactlyOne, Uniform, correct, readsOwn, nonComplete, sharingsTo, uniform}
+use Rattle.threshold.proofs.Sharing.{sum-shares}
+use Rattle.threshold.proofs.Carried.{count→exactly, exactly→count}
+
+module _ (w s : ℕ) (g : Stage) where
+  -- ---- correct
+
+  pub correct-at : correct w s g ≡ true → (σ : ℕ) → σ < 2 ^ (w * s) → sum w s (output (g .lists) σ) ≡ entry (g .table) (sum w s σ)
+  unfolding correct
+  correct-at e σ l = eqb-true _ _ (all-at (2 ^ (w * s)) _ e σ l)
+
+  pub at-correct : ((σ : ℕ) → σ < 2 ^ (w * s) → sum w s (output (g .lists) σ) ≡ entry (g .table) (sum w s σ)) → correct w s g ≡ true
+  unfolding correct
+  at-correct h = all-intro (2 ^ (w * s)) _ (λ σ l. eq-eqb _ _ (h σ l))
+
+  pub correct↔ : correct w s g ≡ true ↔ Correct w s (component w (g .lists)) (g .table)
+  correct↔ = (
+    λ e σ l. sym (sum-shares w s (output (g .lists) σ)) ∙ correct-at e σ l,
+    λ h. at-correct (λ σ l. sum-shares w s (output (g .lists) σ) ∙ h σ l),
+  )
+
+  -- ---- non-complete
+
+  -- the change of a share that the test found
+  pub reads-some : (j : ℕ) → readsOwn w s g j ≡ true
+      → (σ : ℕ) × (σ < 2 ^ (w * s)) × (v : ℕ) × (v < 2 ^ w) × (component w (g .lists) j (withShare w j v σ) ≢ component w (g .lists) j σ)
+  unfolding readsOwn
+  reads-some j e =
+      let a = any-some (2 ^ (w * s)) _ e in
+      let b = any-some (2 ^ w) _ (a .2) in
+      (a .0, a .1, b .0, b .1, eqb-false _ _ (not-true _ (b .2)))
+
+  pub reads-at : (j : ℕ) → (σ : ℕ) → σ < 2 ^ (w * s) → (v : ℕ) → v < 2 ^ w → component w (g .lists) j (withShare w j v σ) ≢ component w (g .lists) j σ
+      → readsOwn w s g j ≡ true
+  unfolding readsOwn
+  reads-at j σ l v lv ne = any-at (2 ^ (w * s)) _ σ l (any-at (2 ^ w) _ v lv (ap not (ne-eqb _ _ ne)))
+
+  pub ignores↔ : (j : ℕ) → readsOwn w s g j ≡ false ↔ Ignores w s j (component w (g .lists) j)
+  unfolding readsOwn
+  ignores↔ j = (
+    λ e σ l v lv. eqb-true _ _ (not-false _ (any-none (2 ^ w) _ (any-none (2 ^ (w * s)) _ e σ l) v lv)),
+    λ h. none-any (2 ^ (w * s)) _ (λ σ l. none-any (2 ^ w) _ (λ v lv. ap not (eq-eqb _ _ (h σ l v lv)))),
+  )
+
+  pub nonComplete↔ : nonComplete w s g ≡ true ↔ NonComplete w s (component w (g .lists))
+  unfolding nonComplete
+  nonComplete↔ = (
+    λ e j l. ignores↔ j .0 (any-none s (readsOwn w s g) (not-true _ e) j l),
+    λ h. ap not (none-any s (readsOwn w s g) (λ j l. ignores↔ j .1 (h j l))),
+  )
+
+  -- ---- uniform
+
+  pub uniform-at : uniform w s g ≡ true → (x : ℕ) → x < 2 ^ w → (τ : ℕ) → τ < 2 ^ (w * s) → sum w s τ ≡ entry (g .table) x
+      → count (2 ^ (w * s)) (λ σ. eqb (sum w s σ) x && eqb (output (g .lists) σ) τ) ≡ 1
+  unfolding uniform sharingsTo
+  uniform-at e x lx τ lτ h = eqb-true _ _ (implies-at _ _ (all-at (2 ^ (w * s)) _ (all-at (2 ^ w) _ e x lx) τ lτ) (eq-eqb _ _ h))
+
+  pub at-uniform : ((x : ℕ) → x < 2 ^ w → (τ : ℕ) → τ < 2 ^ (w * s) → sum w s τ ≡ entry (g .table) x
+      → count (2 ^ (w * s)) (λ σ. eqb (sum w s σ) x && eqb (output (g .lists) σ) τ) ≡ 1) → uniform w s g ≡ true
+  unfolding uniform sharingsTo
+  at-uniform h =
+      all-intro (2 ^ w) _ (λ x lx. all-intro (2 ^ (w * s)) _ (λ τ lτ. implies-intro _ _ (λ e. eq-eqb _ _ (h x lx τ lτ (eqb-true _ _ e)))))
+
+  both : (x τ σ : ℕ) → (eqb (sum w s σ) x && eqb (output (g .lists) σ) τ) ≡ true → (sum w s σ ≡ x) × (output (g .lists) σ ≡ τ)
+  both x τ σ e = (
+    eqb-true _ _ (and-left (eqb (sum w s σ) x) (eqb (output (g .lists) σ) τ) e),
+    eqb-true _ _ (and-right (eqb (sum w s σ) x) (eqb (output (g .lists) σ) τ) e),
+  )
+
+  of-both : (x τ σ : ℕ) → (sum w s σ ≡ x) × (output (g .lists) σ ≡ τ) → (eqb (sum w s σ) x && eqb (output (g .lists) σ) τ) ≡ true
+  of-both x τ σ e = and-intro (eq-eqb _ _ (e .0)) (eq-eqb _ _ (e .1))
+
+  pub uniform↔ : uniform w s g ≡ true ↔ Uniform w s (output (g .lists)) (g .table)
+  uniform↔ = (
+    λ e x lx τ lτ h. count→exactly (2 ^ (w * s)) _ _ (both x τ) (of-both x τ) (uniform-at e x lx τ lτ h),
+    λ u. at-uniform (λ x lx τ lτ h. exactly→count (2 ^ (w * s)) _ _ (both x τ) (of-both x τ) (u x lx τ lτ h)),
+  )
