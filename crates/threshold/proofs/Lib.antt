@@ -3,3 +3,5 @@ pub mod Sharing
 pub mod Output
 pub mod Carried
 pub mod Tests
+pub mod Stages
+pub mod Meetings
