@@ -1,16 +1,16 @@
 -- A value carried through bijections: h moves sharings, g the values that they share. Over plain functions of numbers below N and M.
 -- Where h is correct for a permutation g, uniform and injective are the same, and what is counted once after h is counted once before it.
 -- Assumes nothing.
-use mathlib.Core.Path.{_≡_, refl, sym, ap, ap₂, _∙_, subst}
+use mathlib.Core.Path.{_≡_, refl, sym, ap, _∙_}
 use mathlib.Core.Logic.{_↔_}
-use mathlib.Core.Bool.{Bool, true, false, _&&_}
-use Prim.Native.Nat.{ℕ, _<_, _≤_}
+use mathlib.Core.Bool.{Bool, true, _&&_}
+use Prim.Native.Nat.{ℕ, _<_}
 use native.Mathlib.Omega.{arith}
 use lib.Dec.{eqb}
 use borrow.Author.Tests.{eqb-true, eq-eqb}
 use Rattle.anf.specs.Tests.{count}
-use Rattle.anf.proofs.Testing.{bool-ext, and-intro, and-left, and-right}
-use Rattle.anf.proofs.Counting.{Injective, count-congr, count-one, count-some, count-unique, count-image, count-renamed, pigeonhole}
+use Rattle.anf.proofs.Testing.{bool-ext, and-intro, and-right}
+use Rattle.anf.proofs.Counting.{Injective, count-congr, count-one, count-some, count-unique, count-renamed, pigeonhole}
 use Rattle.threshold.specs.Stages.{ExactlyOne}
 
 -- ---- exactly one, and the count 1

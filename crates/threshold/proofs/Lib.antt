@@ -5,3 +5,4 @@ pub mod Carried
 pub mod Tests
 pub mod Stages
 pub mod Meetings
+pub mod Dependence

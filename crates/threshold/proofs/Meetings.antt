@@ -1,10 +1,10 @@
 -- A chain whose stages are each correct and uniform for a permutation: each setting is met exactly once, whatever the secret is, and the output
 -- shares sum to what the tables make of it. The stages carry the sharings one to one, and a secret and a setting have one sharing.
 -- Assumes nothing.
-use mathlib.Core.Path.{_≡_, refl, sym, ap, ap₂, _∙_, subst}
-use mathlib.Core.Bool.{Bool, true, false, _&&_}
+use mathlib.Core.Path.{_≡_, sym, ap, _∙_, subst}
+use mathlib.Core.Bool.{Bool, _&&_}
 use mathlib.Core.List.{List, [], _∷_}
-use Prim.Native.Nat.{ℕ, zero, suc, _+_, _-_, _*_, _^_, _<_, _≤_, suc-le-suc}
+use Prim.Native.Nat.{ℕ, zero, suc, _-_, _*_, _^_, _<_, suc-le-suc}
 use native.Mathlib.Nat.{not-suc-le-zero, le-of-suc-le-suc}
 use native.Mathlib.Numerals.{sub-one}
 use native.Mathlib.Omega.{arith}
@@ -14,7 +14,7 @@ use lib.Seq.{take-length}
 use Rattle.anf.specs.Tests.{count}
 use Rattle.anf.proofs.Counting.{Injective, count-congr, by-part-once}
 use Rattle.design.specs.Design.{Stage, entry, noStage}
-use Rattle.threshold.specs.Sharing.{share, sum, setting, putShare}
+use Rattle.threshold.specs.Sharing.{sum, setting, putShare}
 use Rattle.threshold.specs.Stages.{output, component, Correct, Ignores, Uniform, correct, uniform}
 use Rattle.threshold.specs.Chain.{chained, handed, meetings}
 use Rattle.threshold.proofs.Sharing.{sum-lt, setting-lt, one-sharing}

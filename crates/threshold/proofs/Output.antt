@@ -1,38 +1,25 @@
 -- The output sharing is made of the lists: bit i is the value of list i, and share j is the output of the w lists from w × j on.
 -- The lists stand low bit first, so each law peels the first list and halves. Assumes nothing.
 use mathlib.Core.Path.{_≡_, refl, sym, ap, ap₂, _∙_, subst}
-use mathlib.Core.Bool.{Bool, true, false}
 use mathlib.Core.List.{List, [], _∷_}
-use Prim.Native.Nat.{ℕ, zero, suc, _+_, _-_, _*_, _/_, _%_, _^_, _≤_, _<_}
+use Prim.Native.Nat.{ℕ, zero, suc, _+_, _-_, _*_, _/_, _%_, _^_, _<_}
 use native.Mathlib.Nat.{le-refl, pow-suc, zero-lt-suc, div-one, mod-one, zero-div, zero-mod, mul-comm, div-div-eq-div-mul, add-zero}
 use native.Mathlib.Omega.{arith}
 use native.Mathlib.Numerals.{add-one}
 use lib.Arith.{digits-lt, digits-div, digits-mod, mod-mul}
 use lib.Pow.{pow-pos}
-use lib.Bits.{bitXor, xor-lt}
 use lib.ListN.{length, getD, take, drop, length-take}
 use lib.Seq.{getD-take, getD-drop, drop-cons, drop-length}
-use Rattle.anf.specs.Tests.{pick}
-use Rattle.anf.specs.NormalForm.{subset}
 use Rattle.anf.specs.Terms.{valueAt}
+use Rattle.anf.proofs.Terms.{valueAt-lt}
 use Rattle.threshold.specs.Sharing.{share}
 use Rattle.threshold.specs.Stages.{output, component}
-
--- the value of a list is a bit
-pub value-lt : (l : List ℕ) (σ : ℕ) → valueAt l σ < 2
-unfolding valueAt
-value-lt [] σ = zero-lt-suc 1
-value-lt (t ∷ ts) σ = xor-lt 1 (pick (subset t σ) 1 0) (valueAt ts σ) (bit-lt (subset t σ)) (value-lt ts σ)
-  where
-    bit-lt : (b : Bool) → pick b 1 0 < 2
-    bit-lt true = omega arith
-    bit-lt false = omega arith
 
 pub output-lt : (ls : List (List ℕ)) (σ : ℕ) → output ls σ < 2 ^ length ls
 unfolding output
 output-lt [] σ = le-refl 1
 output-lt (l ∷ ls) σ =
-    subst (λ (x : ℕ). output ls σ * 2 + valueAt l σ < x) (sym (pow-suc 2 (length ls))) (digits-lt (output-lt ls σ) (value-lt l σ))
+    subst (λ (x : ℕ). output ls σ * 2 + valueAt l σ < x) (sym (pow-suc 2 (length ls))) (digits-lt (output-lt ls σ) (valueAt-lt l σ))
 
 module _ (σ : ℕ) where
   output-drop : (k : ℕ) (ls : List (List ℕ)) → output ls σ / 2 ^ k ≡ output (drop k ls) σ
@@ -42,7 +29,7 @@ module _ (σ : ℕ) where
   output-drop (suc k) (l ∷ ls) =
       ap (λ (x : ℕ). (output ls σ * 2 + valueAt l σ) / x) (pow-suc 2 k ∙ mul-comm (2 ^ k) 2)
       ∙ sym (div-div-eq-div-mul (output ls σ * 2 + valueAt l σ) 2 (2 ^ k))
-      ∙ ap (λ (x : ℕ). x / 2 ^ k) (digits-div (output ls σ) (value-lt l σ))
+      ∙ ap (λ (x : ℕ). x / 2 ^ k) (digits-div (output ls σ) (valueAt-lt l σ))
       ∙ output-drop k ls
 
   output-take : (k : ℕ) (ls : List (List ℕ)) → output ls σ % 2 ^ k ≡ output (take k ls) σ
@@ -52,7 +39,7 @@ module _ (σ : ℕ) where
   output-take (suc k) (l ∷ ls) =
       ap (λ (x : ℕ). (output ls σ * 2 + valueAt l σ) % x) (pow-suc 2 k)
       ∙ mod-mul (output ls σ * 2 + valueAt l σ) (pow-pos k) (zero-lt-suc 1)
-      ∙ ap₂ (λ (x y : ℕ). x % 2 ^ k * 2 + y) (digits-div (output ls σ) (value-lt l σ)) (digits-mod (output ls σ) (value-lt l σ))
+      ∙ ap₂ (λ (x y : ℕ). x % 2 ^ k * 2 + y) (digits-div (output ls σ) (valueAt-lt l σ)) (digits-mod (output ls σ) (valueAt-lt l σ))
       ∙ ap (λ (x : ℕ). x * 2 + valueAt l σ) (output-take k ls)
 
   pub output-share : (w j : ℕ) (ls : List (List ℕ)) → share w j (output ls σ) ≡ output (take w (drop (w * j) ls)) σ
@@ -62,7 +49,7 @@ module _ (σ : ℕ) where
   output-low : (ls : List (List ℕ)) → output ls σ % 2 ≡ valueAt (getD ls 0 []) σ
   unfolding output valueAt
   output-low [] = refl
-  output-low (l ∷ ls) = digits-mod (output ls σ) (value-lt l σ)
+  output-low (l ∷ ls) = digits-mod (output ls σ) (valueAt-lt l σ)
 
   pub output-bit : (i : ℕ) (ls : List (List ℕ)) → output ls σ / 2 ^ i % 2 ≡ valueAt (getD ls i []) σ
   output-bit i ls =

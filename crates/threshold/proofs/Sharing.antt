@@ -1,8 +1,7 @@
 -- A sharing is its share j and its setting of component j, and its sum is the xor of that share and the sum of the setting.
 -- Shares stand at the places of powers of 2; only the sum over the shares needs induction. Assumes nothing.
 use mathlib.Core.Path.{_≡_, refl, sym, ap, ap₂, _∙_, subst}
-use mathlib.Core.Bool.{Bool, true, false, _&&_}
-use mathlib.Core.Logic.{_≢_}
+use mathlib.Core.Bool.{_&&_}
 use Prim.Native.Nat.{ℕ, zero, suc, _+_, _-_, _*_, _/_, _%_, _^_, _≤_, _<_}
 use native.Mathlib.Nat.{le-of-suc-le-suc, not-suc-le-zero, mul-zero, mul-suc, div-one, mod-one, mul-one, add-zero, mul-comm, mul-assoc, mul-add, div-div-eq-div-mul, mod-lt, div-add-mod', add-mul, add-assoc, add-sub-of-le, div-lt-iff-lt-mul, add-comm}
 use native.Mathlib.Omega.{arith}

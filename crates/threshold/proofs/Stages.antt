@@ -1,20 +1,19 @@
 -- One stage that is correct for a permutation: it carries sharings, and it is uniform exactly when no output sharing is met twice.
 -- Non-complete: what component j gives is a function of its setting. Assumes nothing.
-use mathlib.Core.Path.{_≡_, refl, sym, ap, ap₂, _∙_, subst}
-use mathlib.Core.Logic.{_↔_}
-use mathlib.Core.Bool.{Bool, true, false}
+use mathlib.Core.Path.{_≡_, sym, ap, _∙_, subst}
+use mathlib.Core.Bool.{true}
 use mathlib.Core.List.{List}
 use Prim.Native.Nat.{ℕ, _*_, _^_, _<_}
 use lib.ListN.{length}
 use lib.Pow.{pow-pos}
 use Rattle.anf.proofs.Counting.{Injective}
 use Rattle.design.specs.Design.{Stage, entry}
-use Rattle.threshold.specs.Sharing.{share, sum, setting, putShare, withShare}
-use Rattle.threshold.specs.Stages.{output, component, Correct, Ignores, NonComplete, Uniform, correct, uniform}
-use Rattle.threshold.proofs.Sharing.{sum-lt, share-lt, sum-shares, with-other}
+use Rattle.threshold.specs.Sharing.{share, sum, setting, putShare}
+use Rattle.threshold.specs.Stages.{output, Ignores, correct, uniform}
+use Rattle.threshold.proofs.Sharing.{sum-lt, share-lt, with-other}
 use Rattle.threshold.proofs.Output.{output-lt}
 use Rattle.threshold.proofs.Carried.{Carries, even→injective, injective→even}
-use Rattle.threshold.proofs.Tests.{correct-at, correct↔, uniform↔, uniform-at, at-uniform}
+use Rattle.threshold.proofs.Tests.{correct-at, uniform-at, at-uniform}
 
 -- a permutation of the numbers of w bits
 pub record Permutes (w : ℕ) (t : List ℕ) : Type 0 where

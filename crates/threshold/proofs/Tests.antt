@@ -1,18 +1,16 @@
 -- Each test of a stage means its proposition: the test passes exactly when the proposition holds. A test that fails has a place where it does.
 -- Assumes nothing.
-use mathlib.Core.Path.{_≡_, refl, sym, ap, ap₂, _∙_, subst}
+use mathlib.Core.Path.{_≡_, sym, ap, _∙_}
 use mathlib.Core.Logic.{_↔_, _≢_}
-use mathlib.Core.Bool.{Bool, true, false, _&&_, not}
-use mathlib.Core.List.{List}
-use Prim.Native.Nat.{ℕ, zero, suc, _+_, _*_, _^_, _<_}
+use mathlib.Core.Bool.{true, false, _&&_, not}
+use Prim.Native.Nat.{ℕ, _*_, _^_, _<_}
 use lib.Dec.{eqb}
 use borrow.Author.Tests.{eqb-true, eqb-false, eq-eqb, ne-eqb, not-true, not-false}
-use Rattle.anf.specs.Tests.{all, any, count, implies}
-use Rattle.anf.specs.Sums.{xorBelow}
-use Rattle.anf.proofs.Testing.{all-at, all-intro, any-at, any-some, any-none, none-any, implies-at, implies-intro, and-intro, and-left, and-right, clash, not-true-false, true-or-false}
+use Rattle.anf.specs.Tests.{count}
+use Rattle.anf.proofs.Testing.{all-at, all-intro, any-at, any-some, any-none, none-any, implies-at, implies-intro, and-intro, and-left, and-right}
 use Rattle.design.specs.Design.{Stage, entry}
 use Rattle.threshold.specs.Sharing.{share, sum, withShare}
-use Rattle.threshold.specs.Stages.{output, component, Correct, Ignores, NonComplete, ExactlyOne, Uniform, correct, readsOwn, nonComplete, sharingsTo, uniform}
+use Rattle.threshold.specs.Stages.{output, component, Correct, Ignores, NonComplete, Uniform, correct, readsOwn, nonComplete, sharingsTo, uniform}
 use Rattle.threshold.proofs.Sharing.{sum-shares}
 use Rattle.threshold.proofs.Carried.{count→exactly, exactly→count}
 
