@@ -7,3 +7,5 @@ pub mod Flat
 pub mod Joined
 pub mod Written
 pub mod TermBytes
+pub mod Formed
+pub mod Answered
