@@ -7,3 +7,4 @@ pub mod Subsets
 pub mod Transform
 pub mod Terms
 pub mod Passing
+pub mod Degree

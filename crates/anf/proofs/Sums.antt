@@ -68,6 +68,12 @@ unfolding xorBelow
 xorBelow-bit zero b f = sym (ap (λ (x : ℕ). x % 2) (zero-div (2 ^ b)))
 xorBelow-bit (suc n) b f = ap (λ (x : ℕ). bitXor x (f n / 2 ^ b % 2)) (xorBelow-bit n b f) ∙ sym (xor-bit (xorBelow n f) (f n) b)
 
+-- the first apart
+pub xorBelow-first : (n : ℕ) (f : ℕ → ℕ) → xorBelow (suc n) f ≡ bitXor (f 0) (xorBelow n (λ i. f (suc i)))
+unfolding xorBelow
+xorBelow-first zero f = sym (xor-zero-r (f 0))
+xorBelow-first (suc n) f = ap (λ (x : ℕ). bitXor x (f (suc n))) (xorBelow-first n f) ∙ xor-assoc (f 0) (xorBelow n (λ i. f (suc i))) (f (suc n))
+
 pub xorBelow-zero : (f : ℕ → ℕ) → xorBelow 0 f ≡ 0
 unfolding xorBelow
 xorBelow-zero f = refl
