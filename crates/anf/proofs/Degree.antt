@@ -7,6 +7,7 @@ use mathlib.Core.Bool.{Bool, true, false}
 use mathlib.Core.List.{List, [], _∷_}
 use Prim.Native.Nat.{ℕ, zero, suc, _+_, _-_, _*_, _^_, _≤_, _<_, max}
 use native.Mathlib.Nat.{not-suc-le-zero, le-of-suc-le-suc, add-zero}
+use native.Mathlib.Numerals.{add-one}
 use native.Mathlib.Decide.{decLt}
 use native.Mathlib.Omega.{arith}
 use lib.Pow.{pow-pos}
@@ -216,6 +217,16 @@ largest-some (suc n) g h = go (largest-some n g) (decLt (g n) (largest n g))
         → (i : ℕ) × (i < suc n) × (g i ≡ max (largest n g) (g n))
     go ih (yes l) = let w = ih (omega arith) in (w .0, omega (arith, w .1), omega (arith, w .2))
     go ih (no l) = (n, omega arith, omega arith)
+
+-- one more number, as code counts
+pub largest-more : (n : ℕ) (g : ℕ → ℕ) → largest (n + 1) g ≡ max (largest n g) (g n)
+unfolding largest
+largest-more n g = rw add-one refl
+
+pub largest-congr : (n : ℕ) (f g : ℕ → ℕ) → ((i : ℕ) → i < n → f i ≡ g i) → largest n f ≡ largest n g
+unfolding largest
+largest-congr zero f g h = refl
+largest-congr (suc n) f g h = ap₂ max (largest-congr n f g (λ i l. h i (omega arith))) (h n (omega arith))
 
 -- every set whose coefficient word is not zero has at most `degree` variables
 pub degree-at : (n : ℕ) (f : ℕ → ℕ) (u : ℕ) → u < 2 ^ n → subsetSum n f u ≢ 0 → ones u ≤ degree n f

@@ -8,3 +8,4 @@ pub mod Transform
 pub mod Terms
 pub mod Passing
 pub mod Degree
+pub mod Answers

@@ -83,6 +83,13 @@ pub xorBelow-more : (n : ℕ) (f : ℕ → ℕ) → xorBelow (n + 1) f ≡ bitXo
 unfolding xorBelow
 xorBelow-more n f = rw add-one refl
 
+-- a turn of a loop that sums: with the number x, and without
+pub xorBelow-step : (n : ℕ) (f : ℕ → ℕ) (s s′ x : ℕ) → s ≡ xorBelow n f → s′ ≡ bitXor s x → f n ≡ x → s′ ≡ xorBelow (n + 1) f
+xorBelow-step n f s s′ x a b h = rw (xorBelow-more, h, ← a) b
+
+pub xorBelow-skip : (n : ℕ) (f : ℕ → ℕ) (s s′ : ℕ) → s ≡ xorBelow n f → s′ ≡ s → f n ≡ 0 → s′ ≡ xorBelow (n + 1) f
+xorBelow-skip n f s s′ a b h = rw (xorBelow-more, h, ← a, xor-zero-r) b
+
 -- ---- a number that counts where a test passes
 
 pub pick-xor : (b : Bool) (x y : ℕ) → pick b (bitXor x y) 0 ≡ bitXor (pick b x 0) (pick b y 0)

@@ -1,1 +1,161 @@
-// Normal form: the passage between a table and its coefficients.
+// Normal form: the passage between a table and its coefficients, and what tables are tested for.
+ghost use mathlib.Core.Path.{_≡_};
+ghost use mathlib.Core.List.{_++_};
+ghost use Prim.Native.Nat.{_^_, _<_, _≤_, max};
+ghost use lib.Dec.{eqb};
+ghost use lib.Count.{ones};
+ghost use lib.ListN.{length, getD, drop};
+ghost use Rattle.anf.specs.Tests.{pick, any, tabulate};
+ghost use Rattle.anf.specs.Tables.{entriesBelow, repeats, wordsDegree};
+ghost use Rattle.anf.specs.Transform.{sumAt, transformReason, transformAfter};
+
+// The number of points of m variables.
+pub fn points(m: usize) -> usize
+    requires { ⌜ m ≤ 20 ⌝ }
+    ensures { λ r. ⌜ r ≡ 2 ^ m ⌝ }
+{
+    1 << m
+}
+
+// Whether every entry is below the bound.
+pub fn entries_below(table: &[u8], bound: usize) -> bool
+    ensures { λ r. ⌜ r ≡ entriesBelow (now (table .entry)) bound ⌝ }
+{
+    let mut i: usize = 0;
+    while i < table.len() {
+        if bound <= table[i] as usize {
+            return false;
+        }
+        i += 1;
+    }
+    true
+}
+
+// Whether some two entries are equal.
+pub fn repeats(table: &[u8]) -> bool
+    ensures { λ r. ⌜ r ≡ repeats (length (now (table .entry))) (now (table .entry)) ⌝ }
+{
+    let mut i: usize = 0;
+    while i < table.len() {
+        if stands_below(table, i) {
+            return true;
+        }
+        i += 1;
+    }
+    false
+}
+
+// Whether the entry at i stands at an index below i too.
+fn stands_below(table: &[u8], i: usize) -> bool
+    requires { ⌜ i < length (now table) ⌝ }
+    ensures { λ r. ⌜ r ≡ any i (λ y. eqb (getD (now (table .entry)) y 0) (getD (now (table .entry)) i 0)) ⌝ }
+{
+    let entry = table[i];
+    let mut y: usize = 0;
+    while y < i {
+        if table[y] == entry {
+            return true;
+        }
+        y += 1;
+    }
+    false
+}
+
+// The degree that coefficient words give.
+pub fn words_degree(words: &[u8]) -> u32
+    requires { ⌜ length (now words) ≤ 2 ^ 20 ⌝ }
+    ensures { λ r. ⌜ r ≡ wordsDegree (now (words .entry)) ⌝ }
+{
+    let mut degree: u32 = 0;
+    let mut u: usize = 0;
+    while u < words.len() {
+        degree = larger(degree, variables(words[u], u as u32));
+        u += 1;
+    }
+    degree
+}
+
+// How many variables the set u has, or 0 where its coefficient word is 0.
+fn variables(word: u8, u: u32) -> u32
+    ensures { λ r. ⌜ r ≡ pick (eqb word 0) 0 (ones u) ⌝ }
+{
+    if word == 0 {
+        return 0;
+    }
+    u32::count_ones(u)
+}
+
+fn larger(a: u32, b: u32) -> u32
+    ensures { λ r. ⌜ r ≡ max a b ⌝ }
+{
+    if a < b { b } else { a }
+}
+
+// The sum of the entries at all subsets of u.
+fn subset_sum(table: &[u8], u: usize) -> u8
+    ensures { λ r. ⌜ r ≡ sumAt (now (table .entry)) u ⌝ }
+{
+    let mut sum: u8 = 0;
+    let mut v: usize = 0;
+    while v < table.len() {
+        if v & u == v {
+            sum = sum ^ table[v];
+        }
+        v += 1;
+    }
+    sum
+}
+
+// Writes the sums over subsets over the first n bytes.
+fn write_sums(n: usize, input: &[u8], output: &mut [u8])
+    requires { ⌜ n ≤ length (now output) ⌝ }
+    ensures { λ _. ⌜ now (output .exit) ≡ tabulate n (sumAt (now (input .entry))) ++ drop n (now (output .entry)) ⌝ }
+{
+    let mut u: usize = 0;
+    while u < n {
+        let sum = subset_sum(input, u);
+        output[u] = sum;
+        u += 1;
+    }
+}
+
+// The passage, which is one calculation both ways.
+fn pass(m: usize, input: &[u8], output: &mut [u8]) -> usize
+    ensures { λ r. ⌜ r ≡ transformReason m (now (input .entry)) (length (now (output .entry))) ⌝ }
+    ensures { λ _. ⌜ now (output .exit) ≡ transformAfter m (now (input .entry)) (now (output .entry)) ⌝ }
+{
+    if m < 1 {
+        return 4;
+    }
+    if 6 < m {
+        return 4;
+    }
+    let n = points(m);
+    if input.len() != n {
+        return 3;
+    }
+    if !entries_below(input, n) {
+        return 5;
+    }
+    if output.len() < n {
+        return 17;
+    }
+    write_sums(n, input, output);
+    0
+}
+
+// The coefficient words of a table of 2^m entries.
+pub fn to_coefficients(m: usize, input: &[u8], output: &mut [u8]) -> usize
+    ensures { λ r. ⌜ r ≡ transformReason m (now (input .entry)) (length (now (output .entry))) ⌝ }
+    ensures { λ _. ⌜ now (output .exit) ≡ transformAfter m (now (input .entry)) (now (output .entry)) ⌝ }
+{
+    pass(m, input, output)
+}
+
+// The table that has these 2^m coefficient words.
+pub fn to_table(m: usize, input: &[u8], output: &mut [u8]) -> usize
+    ensures { λ r. ⌜ r ≡ transformReason m (now (input .entry)) (length (now (output .entry))) ⌝ }
+    ensures { λ _. ⌜ now (output .exit) ≡ transformAfter m (now (input .entry)) (now (output .entry)) ⌝ }
+{
+    pass(m, input, output)
+}

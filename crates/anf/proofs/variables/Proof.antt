@@ -1,0 +1,15 @@
+-- `anf::variables` meets its contract: the test picks the answer.
+use mathlib.Core.Path.{sym}
+use borrow.Author.Tests.{eq-eqb, ne-eqb}
+use Rattle.anf.proofs.Testing.{pick-true, pick-false}
+use Rattle.anf.proofs.variables.Statement.{statement}
+use Rattle.anf.proofs.variables.Tie as tie
+
+returns : tie.Need-returns
+returns c = sym (pick-true _ _ _ (eq-eqb _ _ (c .if1 .taken)))
+
+returns-2 : tie.Need-returns-2
+returns-2 c = sym (pick-false _ _ _ (ne-eqb _ _ (c .if1 .left)))
+
+pub variables-spec : {M : Type 1} → statement M
+variables-spec = tie.close (tie.spec returns returns-2)
