@@ -9,3 +9,4 @@ pub mod Terms
 pub mod Passing
 pub mod Degree
 pub mod Answers
+pub mod Tables
