@@ -6,3 +6,4 @@ pub mod Tests
 pub mod Stages
 pub mod Meetings
 pub mod Dependence
+pub mod Described

@@ -7,7 +7,8 @@ use native.Mathlib.Nat.{le-of-suc-le-suc, not-suc-le-zero, mul-zero, mul-suc, di
 use native.Mathlib.Omega.{arith}
 use lib.Arith.{digits-lt, digits-div, digits-mod, mod-mul, lt-one}
 use lib.Pow.{pow-pos, pow-add}
-use lib.Bits.{bitXor, xor-zero-r, xor-lt, xor-self}
+use native.Mathlib.Numerals.{sub-one}
+use lib.Bits.{bitAnd, bitXor, and-mask, xor-zero-r, xor-lt, xor-self}
 use lib.Dec.{eqb}
 use borrow.Author.Tests.{eqb-true, eq-eqb}
 use Rattle.anf.specs.Tests.{count}
@@ -198,3 +199,15 @@ one-sharing w s j x q h hx hq =
     let vσ : share w j σ ≡ v =
     sym (xor-back (share w j σ) r) ∙ ap (λ (a : ℕ). bitXor a r) (ap (λ (b : ℕ). bitXor (share w j σ) (sum w s b)) (sym dσ) ∙ sym (sum-setting w s j σ h) ∙ eσ) in
     sym (put-share-setting w j σ) ∙ ap₂ (putShare w j) vσ dσ)
+
+-- ---- the sum as code makes it, a share at a time from the lowest
+
+pub sum-none : (w σ : ℕ) → sum w 0 σ ≡ 0
+unfolding sum xorBelow
+sum-none w σ = refl
+
+pub sum-step : (w left total rest t : ℕ) → 0 < left → bitXor total (sum w left rest) ≡ t
+    → bitXor (bitXor total (bitAnd rest (2 ^ w - 1))) (sum w (left - 1) (rest / 2 ^ w)) ≡ t
+sum-step w (suc left) total rest t p e =
+    rw (and-mask rest w, sub-one (suc left)) (xor-assoc total (rest % 2 ^ w) (sum w left (rest / 2 ^ w)) ∙ ap (bitXor total) (sym (sum-suc w left rest)) ∙ e)
+sum-step w zero total rest t p e = absurd (not-suc-le-zero p)

@@ -2,3 +2,4 @@
 pub mod Sharing
 pub mod Stages
 pub mod Chain
+pub mod Running

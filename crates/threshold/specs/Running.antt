@@ -1,0 +1,44 @@
+-- Running a chain on five shares, bytes that travel together, unused ones zero.
+use Prim.Native.Nat.{ℕ, _*_, _^_}
+use mathlib.Core.Bool.{Bool}
+use mathlib.Core.List.{List, [], _∷_}
+use lib.Dec.{eqb, ltb}
+use lib.ListN.{getD}
+use Rattle.anf.specs.Tests.{pick, all, total, tabulate}
+use Rattle.design.specs.Design.{Design}
+use Rattle.design.specs.Reading.{Reading, refused, means, reading}
+use Rattle.threshold.specs.Sharing.{share}
+use Rattle.threshold.specs.Chain.{handed}
+use Rattle.threshold.specs.declared.Ran.{Ran}
+
+-- the sharing whose s shares are the first bytes of l
+unfoldable pub packed : ℕ → ℕ → List ℕ → ℕ
+packed w s l = total s (λ j. getD l j 0 * 2 ^ (w * j))
+
+-- the five bytes of a sharing: its s shares, then zeros
+unfoldable pub unpacked : ℕ → ℕ → ℕ → List ℕ
+unpacked w s σ = tabulate 5 (λ j. pick (ltb j s) (share w j σ) 0)
+
+-- a run takes v as share j: a used share is below 2^w, and a share after s is 0
+unfoldable pub shareFits : ℕ → ℕ → ℕ → ℕ → Bool
+shareFits w s j v = pick (ltb j s) (ltb v (2 ^ w)) (eqb v 0)
+
+unfoldable pub sharesFit : ℕ → ℕ → List ℕ → Bool
+sharesFit w s l = all 5 (λ j. shareFits w s j (getD l j 0))
+
+-- a refusal answers its number and five zeros
+abbrev pub refusal : ℕ → Ran
+refusal r = record { reason = r; shares = 0 ∷ 0 ∷ 0 ∷ 0 ∷ 0 ∷ [] }
+
+-- success answers 0 and the output shares, those that the last stage gives
+abbrev pub success : Design → List ℕ → Ran
+success d l = record { reason = 0; shares = unpacked (d .m) (d .s) (handed (d .stages) (d .k) (packed (d .m) (d .s) l)) }
+
+-- first the refusals of reading, then 15
+unfoldable pub runningOn : Reading → List ℕ → Ran
+runningOn (refused r place) l = refusal r
+runningOn (means d) l = pick (sharesFit (d .m) (d .s) l) (success d l) (refusal 15)
+
+-- the answer of running the chain of a file on five shares
+unfoldable pub running : List ℕ → List ℕ → Ran
+running file l = runningOn (reading file) l
