@@ -7,5 +7,6 @@ pub mod Flat
 pub mod Joined
 pub mod Written
 pub mod TermBytes
+pub mod Overwriting
 pub mod Formed
 pub mod Answered

@@ -46,4 +46,4 @@ terms (a ∷ b ∷ c ∷ d ∷ l) = little a b c d ∷ terms l
 
 -- l with the bytes b written over it from a place on
 unfoldable pub overwrite : List ℕ → ℕ → List ℕ → List ℕ
-overwrite l at b = take at l ++ (b ++ drop (at + length b) l)
+overwrite l at b = take at l ++ b ++ drop (at + length b) l
