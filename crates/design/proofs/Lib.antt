@@ -10,3 +10,6 @@ pub mod TermBytes
 pub mod Overwriting
 pub mod Formed
 pub mod Answered
+pub mod Encoded
+pub mod Nested
+pub mod Theorems

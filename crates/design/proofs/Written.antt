@@ -229,7 +229,7 @@ pub read-means : (f : List ℕ) (d : Design) → reading f ≡ means d → d ≡
 unfolding reading place
 read-means f d e = ends f (headOf f) d (lastOf (headOf f) + 1) 0 0 e refl .0
 
-pub read-encodes : (f : List ℕ) (d : Design) → Bytes f → reading f ≡ means d → f ≡ flat d
-read-encodes f d b e =
+pub read-flat : (f : List ℕ) (d : Design) → Bytes f → reading f ≡ means d → f ≡ flat d
+read-flat f d b e =
     let q = read-means f d e in
     rw q (written f b (e ∙ ap means q))
