@@ -13,3 +13,4 @@ pub mod Answered
 pub mod Encoded
 pub mod Nested
 pub mod Theorems
+pub mod Bench

@@ -5,3 +5,4 @@ pub mod Bytes
 pub mod Encode
 pub mod Reading
 pub mod Layout
+pub mod Bench
