@@ -10,3 +10,4 @@ pub mod Passing
 pub mod Degree
 pub mod Answers
 pub mod Tables
+pub mod Bench

@@ -5,3 +5,4 @@ pub mod NormalForm
 pub mod Terms
 pub mod Tables
 pub mod Transform
+pub mod Bench
