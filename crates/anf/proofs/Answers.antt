@@ -1,5 +1,5 @@
 -- What the passages answer and leave, one law for each way out; and that one after the other gives the input back.
-use mathlib.Core.Path.{_≡_, refl, sym, ap, ap₂, _∙_}
+use mathlib.Core.Path.{_≡_, refl, sym, ap, _∙_}
 use mathlib.Core.Bool.{Bool, true, false, not, _||_}
 use mathlib.Core.List.{List, _++_}
 use Prim.Native.Nat.{ℕ, _^_, _≤_, _<_}
@@ -9,7 +9,6 @@ use lib.ListN.{length, getD, take, drop}
 use lib.Seq.{ext-getD, take-at}
 use borrow.Author.Tests.{lt-ltb, le-ltb, eq-eqb, ne-eqb, ltb-false, eqb-true, not-false}
 use Rattle.anf.specs.Tests.{pick, tabulate}
-use Rattle.anf.specs.Sums.{xorBelow}
 use Rattle.anf.specs.NormalForm.{subsetSum, degree}
 use Rattle.anf.specs.Tables.{entriesBelow, wordsDegree}
 use Rattle.anf.specs.Transform.{transformReason, transformAfter, transformed, sumAt}

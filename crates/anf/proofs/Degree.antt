@@ -2,7 +2,7 @@
 -- which the j-th ignores share j. The set is split into s blocks, and both sides are summed over all tuples of a subset of each block: the table's
 -- side is the coefficient, and each function's side cancels in pairs.
 use mathlib.Core.Path.{_≡_, refl, sym, ap, ap₂, _∙_}
-use mathlib.Core.Logic.{_≢_, _⊎_, inl, inr}
+use mathlib.Core.Logic.{_≢_}
 use mathlib.Core.Bool.{Bool, true, false}
 use mathlib.Core.List.{List, [], _∷_}
 use Prim.Native.Nat.{ℕ, zero, suc, _+_, _-_, _*_, _^_, _≤_, _<_, max}
@@ -13,7 +13,7 @@ use native.Mathlib.Omega.{arith}
 use lib.Pow.{pow-pos}
 use lib.Dec.{eqb}
 use lib.Count.{ones, ones-cat, ones-le}
-use lib.Bits.{bitAnd, bitXor, xor-zero-r, xor-lt, and-zero-r, xor-comm}
+use lib.Bits.{bitAnd, bitXor, xor-zero-r, xor-lt, and-zero-r}
 use lib.ListN.{length, set, getD}
 use borrow.Author.Tests.{ne-eqb, eqb-false}
 use Rattle.anf.specs.Tests.{pick}

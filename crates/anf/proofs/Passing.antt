@@ -1,25 +1,24 @@
 -- The list of the numbers that pass a test: it rises, it has those members and no rising list but it has them, and its value is a sum.
 -- So a table is the sum of its terms: at each bit, the list of the sets whose coefficient word has that bit.
 use mathlib.Core.Path.{_≡_, refl, sym, ap, ap₂, _∙_}
-use mathlib.Core.Logic.{_⊎_, inl, inr, ⊎-elim}
-use mathlib.Core.Bool.{Bool, true, false, false≢true}
-use mathlib.Core.List.{List, [], _∷_, _++_, List·Memᴰ, List·Memᴰ·head, List·Memᴰ·tail, List·Memᴰ·not-nil, List·Memᴰ·cases-cons, List·Memᴰ·append-cases, List·Memᴰ·eq-of-singleton, Memᴰ·append-left, Memᴰ·append-right, Memᴰ·cast}
+use mathlib.Core.Logic.{⊎-elim}
+use mathlib.Core.Bool.{Bool, true, false}
+use mathlib.Core.List.{List, [], _∷_, _++_, List·Memᴰ, List·Memᴰ·head, List·Memᴰ·tail, List·Memᴰ·not-nil, List·Memᴰ·cases-cons, List·Memᴰ·append-cases, List·Memᴰ·eq-of-singleton, Memᴰ·append-left, Memᴰ·append-right}
 use Prim.Native.Nat.{ℕ, zero, suc, _+_, _/_, _%_, _^_, _≤_, _<_}
 use native.Mathlib.Nat.{not-suc-le-zero, add-comm}
 use native.Mathlib.Omega.{arith}
 use lib.Dec.{eqb}
 use lib.Bits.{bitXor, xor-zero-r}
 use lib.ListN.{length, length-append}
-use borrow.Author.Tests.{eq-eqb}
 use Rattle.anf.specs.Tests.{pick, bit, count, total}
 use Rattle.anf.specs.Sums.{xorBelow}
 use Rattle.anf.specs.NormalForm.{subset, subsetSum}
 use Rattle.anf.specs.Terms.{valueAt, TermList, passing}
-use Rattle.anf.proofs.Testing.{below, pick-true}
+use Rattle.anf.proofs.Testing.{below}
 use Rattle.anf.proofs.Xor.{bit-cases}
 use Rattle.anf.proofs.Sums.{xorBelow-ext}
 use Rattle.anf.proofs.Transform.{subsetSum-twice, subsetSum-bit}
-use Rattle.anf.proofs.Terms.{Rising, rising-terms, terms-rising, valueAt-append, unique-terms}
+use Rattle.anf.proofs.Terms.{Rising, rising-terms, valueAt-append, unique-terms}
 
 -- ---- it rises
 

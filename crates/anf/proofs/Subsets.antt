@@ -1,13 +1,12 @@
 -- Subsets of sets of variables, and the top variable of a set: a number below 2 ^ suc n is below 2 ^ n, or 2 ^ n more than such a one.
 -- Induction on the number of variables goes by that.
-use mathlib.Core.Path.{_≡_, refl, sym, ap, ap₂, _∙_, subst}
-use mathlib.Core.Logic.{_⊎_, inl, inr, _≢_}
+use mathlib.Core.Path.{_≡_, refl, sym, ap₂, _∙_, subst}
+use mathlib.Core.Logic.{_≢_}
 use mathlib.Core.Bool.{Bool, true, false}
-use Prim.Native.Nat.{ℕ, zero, suc, _+_, _-_, _*_, _^_, _≤_, _<_}
+use Prim.Native.Nat.{ℕ, suc, _+_, _-_, _*_, _^_, _<_}
 use native.Mathlib.Decide.{decLt}
 use native.Mathlib.Omega.{arith}
-use lib.Dec.{eqb}
-use lib.Bits.{bitAnd, bitXor, and-block, xor-block, and-self, and-le-r, and-le-l, and-comm}
+use lib.Bits.{bitAnd, bitXor, and-block, xor-block, and-self, and-le-r}
 use borrow.Author.Tests.{eqb-true, eqb-false, eq-eqb, ne-eqb}
 use Rattle.anf.specs.NormalForm.{subset}
 

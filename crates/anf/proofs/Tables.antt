@@ -1,19 +1,18 @@
 -- What the tests of tables mean: entries below a bound, entries that repeat, and the degree that coefficient words give.
-use mathlib.Core.Path.{_≡_, refl, sym, ap, _∙_}
-use mathlib.Core.Logic.{_≢_, _⊎_, inl, inr, ⊎-elim}
-use mathlib.Core.Bool.{Bool, true, false}
+use mathlib.Core.Path.{_≡_, sym, ap}
+use mathlib.Core.Bool.{true, false}
 use mathlib.Core.List.{List}
-use Prim.Native.Nat.{ℕ, _^_, _≤_, _<_}
+use Prim.Native.Nat.{ℕ, _^_, _<_}
 use native.Mathlib.Decide.{decLt}
 use native.Mathlib.Omega.{arith}
 use lib.Dec.{eqb, ltb}
 use lib.Count.{ones}
 use lib.ListN.{length, getD}
 use borrow.Author.Tests.{eqb-true, eq-eqb, ltb-true, lt-ltb}
-use Rattle.anf.specs.Tests.{pick, all, any}
-use Rattle.anf.specs.NormalForm.{subsetSum, largest, degree}
+use Rattle.anf.specs.Tests.{pick, any}
+use Rattle.anf.specs.NormalForm.{subsetSum, degree}
 use Rattle.anf.specs.Tables.{entriesBelow, repeats, wordsDegree}
-use Rattle.anf.proofs.Testing.{all-at, all-intro, any-at, any-some, any-none, none-any, not-true-false, clash}
+use Rattle.anf.proofs.Testing.{all-at, all-intro, any-at, any-some, not-true-false, clash}
 use Rattle.anf.proofs.Counting.{Injective}
 use Rattle.anf.proofs.Degree.{largest-congr}
 

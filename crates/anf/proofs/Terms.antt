@@ -1,22 +1,22 @@
 -- Lists of terms. At its first term a rising list has the value 1, and below it 0; so the values tell the list, and the least term that names a
 -- variable of a group shows that the value depends on it.
-use mathlib.Core.Path.{_≡_, refl, sym, ap, ap₂, _∙_}
-use mathlib.Core.Logic.{_≢_}
+use mathlib.Core.Path.{_≡_, refl, sym, ap, _∙_}
+use mathlib.Core.Logic.{_≢_, ⊎-elim}
 use mathlib.Core.Bool.{Bool, true, false, false≢true, not, _||_}
-use mathlib.Core.List.{List, [], _∷_, _++_}
+use mathlib.Core.List.{List, [], _∷_, _++_, List·Memᴰ, List·Memᴰ·head, List·Memᴰ·tail, List·Memᴰ·not-nil, List·Memᴰ·cases-cons}
 use Prim.Native.Nat.{ℕ, zero, suc, _+_, _^_, _≤_, _<_}
 use native.Mathlib.Nat.{not-suc-le-zero, le-of-suc-le-suc}
 use native.Mathlib.Numerals.{add-one}
 use native.Mathlib.Decide.{decLt}
 use native.Mathlib.Omega.{arith}
-use lib.Dec.{eqb, ltb}
+use lib.Dec.{eqb}
 use lib.ListN.{length, getD}
-use lib.Bits.{bitAnd, bitXor, xor-zero-r, xor-lt, and-zero-r, and-comm, and-self, xor-self, xor-comm, xor-add-and}
-use borrow.Author.Tests.{eqb-true, eqb-false, ltb-true, lt-ltb}
+use lib.Bits.{bitAnd, bitXor, xor-zero-r, xor-lt, and-comm, and-self, xor-comm, xor-add-and}
+use borrow.Author.Tests.{eqb-true, eqb-false, eq-eqb, ne-eqb, ltb-true, lt-ltb}
 use Rattle.anf.specs.Tests.{pick}
 use Rattle.anf.specs.NormalForm.{subset}
 use Rattle.anf.specs.Terms.{valueAt, before, TermList, names, clear, Depends}
-use Rattle.anf.proofs.Testing.{true-or-false, not-true-false}
+use Rattle.anf.proofs.Testing.{or-left, or-right}
 use Rattle.anf.proofs.Xor.{xor-assoc, xor-left-comm, xor-left-cancel, xor-ring, and-assoc, and-xor, xor-and}
 use Rattle.anf.proofs.Sums.{pick-lt}
 use Rattle.anf.proofs.Subsets.{subset-self, subset-gt, subset-iff}
@@ -107,61 +107,61 @@ unique-terms n a b ta tb h = unique-rising 0 (2 ^ n) a b (terms-rising n a ta) (
 
 -- ---- dependence on the variables of a group
 
-pub clear-add : (x m : ℕ) → clear x m + bitAnd x m ≡ x
-clear-add x m =
-    let e : bitAnd x (bitAnd x m) ≡ bitAnd x m = sym (and-assoc x x m) ∙ ap (λ (y : ℕ). bitAnd y m) (and-self x) in
-    omega (arith, xor-add-and x (bitAnd x m), e)
+pub clear-add : (x group : ℕ) → clear x group + bitAnd x group ≡ x
+clear-add x group =
+    let e : bitAnd x (bitAnd x group) ≡ bitAnd x group = sym (and-assoc x x group) ∙ ap (λ (y : ℕ). bitAnd y group) (and-self x) in
+    omega (arith, xor-add-and x (bitAnd x group), e)
 
-pub and-clear : (t x m : ℕ) → bitAnd t m ≡ 0 → bitAnd t (clear x m) ≡ bitAnd t x
-and-clear t x m h =
-    and-xor t x (bitAnd x m)
-    ∙ ap (bitXor (bitAnd t x)) (ap (bitAnd t) (and-comm x m) ∙ sym (and-assoc t m x) ∙ ap (λ (y : ℕ). bitAnd y x) h)
+pub and-clear : (t x group : ℕ) → bitAnd t group ≡ 0 → bitAnd t (clear x group) ≡ bitAnd t x
+and-clear t x group h =
+    and-xor t x (bitAnd x group)
+    ∙ ap (bitXor (bitAnd t x)) (ap (bitAnd t) (and-comm x group) ∙ sym (and-assoc t group x) ∙ ap (λ (y : ℕ). bitAnd y x) h)
     ∙ xor-zero-r (bitAnd t x)
 
-pub subset-clear : (t x m : ℕ) → bitAnd t m ≡ 0 → subset t (clear x m) ≡ subset t x
-subset-clear t x m h = subset-iff t (clear x m) t x (λ e. sym (and-clear t x m h) ∙ e) (λ e. and-clear t x m h ∙ e)
+pub subset-clear : (t x group : ℕ) → bitAnd t group ≡ 0 → subset t (clear x group) ≡ subset t x
+subset-clear t x group h = subset-iff t (clear x group) t x (λ e. sym (and-clear t x group h) ∙ e) (λ e. and-clear t x group h ∙ e)
 
-pub valueAt-clear : (m : ℕ) (l : List ℕ) → names m l ≡ false → (x : ℕ) → valueAt l (clear x m) ≡ valueAt l x
+pub valueAt-clear : (group : ℕ) (l : List ℕ) → names group l ≡ false → (x : ℕ) → valueAt l (clear x group) ≡ valueAt l x
 unfolding valueAt names
-valueAt-clear m [] h x = refl
-valueAt-clear m (t ∷ l) h x = go (valueAt-clear m l) (eqb (bitAnd t m) 0) refl h
+valueAt-clear group [] h x = refl
+valueAt-clear group (t ∷ l) h x = go (valueAt-clear group l) (eqb (bitAnd t group) 0) refl h
   where
-    go : (names m l ≡ false → (x : ℕ) → valueAt l (clear x m) ≡ valueAt l x) → (b : Bool) → eqb (bitAnd t m) 0 ≡ b → (not b || names m l) ≡ false
-        → valueAt (t ∷ l) (clear x m) ≡ valueAt (t ∷ l) x
-    go ih true e k = rw (subset-clear t x m (eqb-true (bitAnd t m) 0 e), ih k x)
+    go : (names group l ≡ false → (x : ℕ) → valueAt l (clear x group) ≡ valueAt l x) → (b : Bool) → eqb (bitAnd t group) 0 ≡ b → (not b || names group l) ≡ false
+        → valueAt (t ∷ l) (clear x group) ≡ valueAt (t ∷ l) x
+    go ih true e k = rw (subset-clear t x group (eqb-true (bitAnd t group) 0 e), ih k x)
     go ih false e k = cc
 
-pub independent : (m : ℕ) (l : List ℕ) → names m l ≡ false → (x y : ℕ) → clear x m ≡ clear y m → valueAt l x ≡ valueAt l y
-independent m l h x y e = sym (valueAt-clear m l h x) ∙ ap (valueAt l) e ∙ valueAt-clear m l h y
+pub independent : (group : ℕ) (l : List ℕ) → names group l ≡ false → (x y : ℕ) → clear x group ≡ clear y group → valueAt l x ≡ valueAt l y
+independent group l h x y e = sym (valueAt-clear group l h x) ∙ ap (valueAt l) e ∙ valueAt-clear group l h y
 
--- x and x ⊕ d, for d a part of m
-pub clear-xor : (x d m : ℕ) → bitAnd d m ≡ d → clear (bitXor x d) m ≡ clear x m
-clear-xor x d m h = rw (xor-and, h) (simp xor-ring)
+-- changing variables of the group alone
+pub clear-xor : (x d group : ℕ) → bitAnd d group ≡ d → clear (bitXor x d) group ≡ clear x group
+clear-xor x d group h = rw (xor-and, h) (simp xor-ring)
 
-pub names-flip : (m lo hi : ℕ) (l : List ℕ) → Rising lo hi l → names m l ≡ true
-    → (x : ℕ) × (x < hi) × (valueAt l x ≡ bitXor 1 (valueAt l (clear x m)))
+pub names-flip : (group lo hi : ℕ) (l : List ℕ) → Rising lo hi l → names group l ≡ true
+    → (x : ℕ) × (x < hi) × (valueAt l x ≡ bitXor 1 (valueAt l (clear x group)))
 unfolding valueAt names
-names-flip m lo hi [] r h = absurd (false≢true h)
-names-flip m lo hi (t ∷ l) r h = go (names-flip m (suc t) hi l (r .2)) (eqb (bitAnd t m) 0) refl h
+names-flip group lo hi [] r h = absurd (false≢true h)
+names-flip group lo hi (t ∷ l) r h = go (names-flip group (suc t) hi l (r .2)) (eqb (bitAnd t group) 0) refl h
   where
-    go : (names m l ≡ true → (x : ℕ) × (x < hi) × (valueAt l x ≡ bitXor 1 (valueAt l (clear x m)))) → (b : Bool) → eqb (bitAnd t m) 0 ≡ b → (not b || names m l) ≡ true
-        → (x : ℕ) × (x < hi) × (valueAt (t ∷ l) x ≡ bitXor 1 (valueAt (t ∷ l) (clear x m)))
+    go : (names group l ≡ true → (x : ℕ) × (x < hi) × (valueAt l x ≡ bitXor 1 (valueAt l (clear x group)))) → (b : Bool) → eqb (bitAnd t group) 0 ≡ b → (not b || names group l) ≡ true
+        → (x : ℕ) × (x < hi) × (valueAt (t ∷ l) x ≡ bitXor 1 (valueAt (t ∷ l) (clear x group)))
     go ih true e k =
         let w = ih k in
-        (w .0, w .1, rw (subset-clear t (w .0) m (eqb-true (bitAnd t m) 0 e), w .2) (xor-left-comm (pick (subset t (w .0)) 1 0) 1 (valueAt l (clear (w .0) m))))
+        (w .0, w .1, rw (subset-clear t (w .0) group (eqb-true (bitAnd t group) 0 e), w .2) (xor-left-comm (pick (subset t (w .0)) 1 0) 1 (valueAt l (clear (w .0) group))))
     go ih false e k =
-        let ne : bitAnd t m ≢ 0 = eqb-false (bitAnd t m) 0 e in
-        let lt : clear t m < t = omega (arith, clear-add t m) in
-        (t, r .1, valueAt-first hi t l (r .2) ∙ rw (subset-gt t (clear t m) lt, valueAt-above (suc t) hi (clear t m) l (r .2) (omega arith)))
+        let ne : bitAnd t group ≢ 0 = eqb-false (bitAnd t group) 0 e in
+        let lt : clear t group < t = omega (arith, clear-add t group) in
+        (t, r .1, valueAt-first hi t l (r .2) ∙ rw (subset-gt t (clear t group) lt, valueAt-above (suc t) hi (clear t group) l (r .2) (omega arith)))
 
-pub names-differ : (m lo hi : ℕ) (l : List ℕ) → Rising lo hi l → names m l ≡ true → (x : ℕ) × (x < hi) × (valueAt l x ≢ valueAt l (clear x m))
-names-differ m lo hi l r h =
-    let w = names-flip m lo hi l r h in
-    let v = valueAt l (clear (w .0) m) in
+pub names-differ : (group lo hi : ℕ) (l : List ℕ) → Rising lo hi l → names group l ≡ true → (x : ℕ) × (x < hi) × (valueAt l x ≢ valueAt l (clear x group))
+names-differ group lo hi l r h =
+    let w = names-flip group lo hi l r h in
+    let v = valueAt l (clear (w .0) group) in
     (w .0, w .1, λ e. let z : _≡_ {A = ℕ} 1 0 = xor-left-cancel v 1 0 (xor-comm v 1 ∙ sym (w .2) ∙ e ∙ sym (xor-zero-r v)) in omega arith)
 
-pub clear-clear : (x m : ℕ) → clear (clear x m) m ≡ clear x m
-clear-clear x m = clear-xor x (bitAnd x m) m (and-assoc x m m ∙ ap (bitAnd x) (and-self m))
+pub clear-clear : (x group : ℕ) → clear (clear x group) group ≡ clear x group
+clear-clear x group = clear-xor x (bitAnd x group) group (and-assoc x group group ∙ ap (bitAnd x) (and-self group))
 
 -- a list that names a variable of the group depends on the group
 pub names-depends : (n group : ℕ) (l : List ℕ) → TermList n l → names group l ≡ true → Depends n group (valueAt l)
@@ -188,3 +188,20 @@ depends-names n group l d = go (names group l) refl
 pub names-exactly : (n group : ℕ) (l : List ℕ) → TermList n l
     → (names group l ≡ true → Depends n group (valueAt l)) × (Depends n group (valueAt l) → names group l ≡ true)
 names-exactly n group l t = (names-depends n group l t, depends-names n group l)
+
+-- ---- what a list names, by its members
+
+pub names-at : (group : ℕ) (l : List ℕ) (t : ℕ) → List·Memᴰ t l → bitAnd t group ≢ 0 → names group l ≡ true
+unfolding names
+names-at group [] t h ne = absurd (List·Memᴰ·not-nil h)
+names-at group (a ∷ l) t h ne =
+    ⊎-elim
+    (λ (e : t ≡ a). or-left (not (eqb (bitAnd a group) 0)) (names group l) (rw (ne-eqb (bitAnd a group) 0 (rw e at ne)) refl))
+    (λ (k : List·Memᴰ t l). or-right (not (eqb (bitAnd a group) 0)) (names group l) (names-at group l t k ne))
+    (List·Memᴰ·cases-cons h)
+
+pub names-none : (group : ℕ) (l : List ℕ) → ((t : ℕ) → List·Memᴰ t l → bitAnd t group ≡ 0) → names group l ≡ false
+unfolding names
+names-none group [] h = refl
+names-none group (a ∷ l) h =
+    rw (eq-eqb (bitAnd a group) 0 (h a (List·Memᴰ·head refl))) (names-none group l (λ t k. h t (List·Memᴰ·tail k)))

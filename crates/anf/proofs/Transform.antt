@@ -1,7 +1,6 @@
 -- Laws of the sum over subsets, by induction on the number of variables: a set has its top variable or not.
 -- The sum over subsets of the sum over subsets is the table again.
-use mathlib.Core.Path.{_≡_, refl, sym, ap, ap₂, _∙_}
-use mathlib.Core.Bool.{Bool, true, false}
+use mathlib.Core.Path.{_≡_, sym, ap, ap₂, _∙_}
 use Prim.Native.Nat.{ℕ, zero, suc, _+_, _/_, _%_, _^_, _<_}
 use native.Mathlib.Omega.{arith}
 use lib.Arith.{lt-one}
@@ -10,7 +9,7 @@ use lib.Bits.{bitAnd, bitXor, xor-zero-r, xor-self, xor-lt}
 use Rattle.anf.specs.Tests.{pick}
 use Rattle.anf.specs.Sums.{xorBelow}
 use Rattle.anf.specs.NormalForm.{subset, subsetSum}
-use Rattle.anf.proofs.Xor.{xor-assoc, xor-cancel}
+use Rattle.anf.proofs.Xor.{xor-cancel}
 use Rattle.anf.proofs.Sums.{xorBelow-ext, xorBelow-xor, xorBelow-none, xorBelow-double, xorBelow-lt, xorBelow-and, xorBelow-bit, pick-xor, pick-zero, pick-and, pick-bit, pick-lt}
 use Rattle.anf.proofs.Subsets.{subset-self, subset-top-top, subset-low-top, subset-top-low, Top, low, top, top-cases, and-top-top, and-top-low, and-low-top, xor-top-low, xor-low-top}
 

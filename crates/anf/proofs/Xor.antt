@@ -1,12 +1,10 @@
 -- Xor and and of numbers form a Boolean ring. Each law holds of the halves and, by cases, of the lowest bits.
-use mathlib.Core.Path.{_≡_, refl, sym, ap, ap₂, _∙_, subst}
-use mathlib.Core.Logic.{_⊎_, inl, inr}
-use mathlib.Core.Bool.{Bool, true, false}
-use Prim.Native.Nat.{ℕ, zero, suc, _+_, _-_, _*_, _/_, _%_, _^_, _≤_, _<_, min}
-use native.Mathlib.Nat.{mod-lt, zero-lt-suc, not-suc-le-zero, le-of-suc-le-suc, le-trans}
+use mathlib.Core.Path.{_≡_, refl, sym, ap, ap₂, _∙_}
+use Prim.Native.Nat.{ℕ, zero, suc, _/_, _%_, _^_, _<_, min}
+use native.Mathlib.Nat.{mod-lt, zero-lt-suc, not-suc-le-zero, le-of-suc-le-suc}
 use native.Mathlib.Omega.{arith}
 use lib.Arith.{bin-ind, digits-div, digits-mod}
-use lib.Bits.{bitAnd, bitXor, differ, xor-step, and-step, xor-comm, and-comm, xor-self, xor-zero-r, and-zero-r, and-self, xor-shr, xor-mod, and-shr, and-mod}
+use lib.Bits.{bitAnd, bitXor, differ, xor-step, and-step, xor-comm, and-comm, xor-self, xor-zero-r, xor-shr, xor-mod, and-shr, and-mod}
 
 -- case analysis on the lowest bit
 pub bit-cases : (P : ℕ → Type 0) → P 0 → P 1 → (n : ℕ) → P (n % 2)

@@ -1,6 +1,6 @@
 -- To coefficients and back: the answer, and the output afterwards. Both passages take the sum over subsets, so they share these definitions.
 use Prim.Native.Nat.{ℕ, _^_}
-use mathlib.Core.Bool.{Bool, not, _||_}
+use mathlib.Core.Bool.{not, _||_}
 use mathlib.Core.List.{List, _++_}
 use lib.Dec.{eqb, ltb}
 use lib.ListN.{length, getD, drop}

@@ -62,11 +62,11 @@ fn stands_below(table: &[u8], i: usize) -> bool
 }
 
 // The degree that coefficient words give.
-pub fn words_degree(words: &[u8]) -> u32
+pub fn words_degree(words: &[u8]) -> usize
     requires { ⌜ length (now words) ≤ 2 ^ 20 ⌝ }
     ensures { λ r. ⌜ r ≡ wordsDegree (now (words .entry)) ⌝ }
 {
-    let mut degree: u32 = 0;
+    let mut degree: usize = 0;
     let mut u: usize = 0;
     while u < words.len() {
         degree = larger(degree, variables(words[u], u as u32));
@@ -76,16 +76,17 @@ pub fn words_degree(words: &[u8]) -> u32
 }
 
 // How many variables the set u has, or 0 where its coefficient word is 0.
-fn variables(word: u8, u: u32) -> u32
+fn variables(word: u8, u: u32) -> usize
     ensures { λ r. ⌜ r ≡ pick (eqb word 0) 0 (ones u) ⌝ }
 {
     if word == 0 {
         return 0;
     }
-    u32::count_ones(u)
+    u32::count_ones(u) as usize
 }
 
-fn larger(a: u32, b: u32) -> u32
+// The larger of two numbers.
+fn larger(a: usize, b: usize) -> usize
     ensures { λ r. ⌜ r ≡ max a b ⌝ }
 {
     if a < b { b } else { a }
@@ -119,8 +120,8 @@ fn write_sums(n: usize, input: &[u8], output: &mut [u8])
     }
 }
 
-// The passage, which is one calculation both ways.
-fn pass(m: usize, input: &[u8], output: &mut [u8]) -> usize
+// The passage between a table and its coefficient words, which is one calculation both ways.
+fn convert(m: usize, input: &[u8], output: &mut [u8]) -> usize
     ensures { λ r. ⌜ r ≡ transformReason m (now (input .entry)) (length (now (output .entry))) ⌝ }
     ensures { λ _. ⌜ now (output .exit) ≡ transformAfter m (now (input .entry)) (now (output .entry)) ⌝ }
 {
@@ -149,7 +150,7 @@ pub fn to_coefficients(m: usize, input: &[u8], output: &mut [u8]) -> usize
     ensures { λ r. ⌜ r ≡ transformReason m (now (input .entry)) (length (now (output .entry))) ⌝ }
     ensures { λ _. ⌜ now (output .exit) ≡ transformAfter m (now (input .entry)) (now (output .entry)) ⌝ }
 {
-    pass(m, input, output)
+    convert(m, input, output)
 }
 
 // The table that has these 2^m coefficient words.
@@ -157,5 +158,5 @@ pub fn to_table(m: usize, input: &[u8], output: &mut [u8]) -> usize
     ensures { λ r. ⌜ r ≡ transformReason m (now (input .entry)) (length (now (output .entry))) ⌝ }
     ensures { λ _. ⌜ now (output .exit) ≡ transformAfter m (now (input .entry)) (now (output .entry)) ⌝ }
 {
-    pass(m, input, output)
+    convert(m, input, output)
 }

@@ -1,7 +1,7 @@
 -- `anf::subset_sum` meets its contract. The loop's invariant: the sum so far is that of the entries passed.
 use mathlib.Core.Path.{_≡_, refl}
 use mathlib.Core.Logic.{⊎-elim}
-use Prim.Native.Nat.{ℕ, _-_, _≤_}
+use Prim.Native.Nat.{_-_, _≤_}
 use native.Mathlib.Omega.{arith}
 use lib.ListN.{length, getD}
 use Rattle.anf.specs.Tests.{pick}

@@ -1,7 +1,7 @@
 -- `anf::write_sums` meets its contract. The loop's invariant: the sums passed are written, and what follows is untouched.
 use mathlib.Core.Path.{_≡_, refl}
 use mathlib.Core.List.{_++_}
-use Prim.Native.Nat.{ℕ, _-_, _≤_}
+use Prim.Native.Nat.{_-_, _≤_}
 use native.Mathlib.Omega.{arith}
 use lib.ListN.{length, drop, length-set}
 use borrow.Author.Needs.{needs}

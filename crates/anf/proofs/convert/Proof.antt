@@ -1,10 +1,10 @@
--- `anf::pass` meets its contract: each way out is a law of `proofs.Answers`, at the tests that led there.
+-- `anf::convert` meets its contract: each way out is a law of `proofs.Answers`, at the tests that led there.
 use borrow.Author.Needs.{needs}
 use borrow.Author.Tests.{not-true, not-false}
 use mathlib.Core.Path.{sym, _∙_}
 use Rattle.anf.proofs.Answers.{narrow, wide, uneven, large, short, done}
-use Rattle.anf.proofs.pass.Statement.{statement}
-use Rattle.anf.proofs.pass.Tie as tie
+use Rattle.anf.proofs.convert.Statement.{statement}
+use Rattle.anf.proofs.convert.Tie as tie
 
 returns : tie.Need-returns
 returns c = narrow _ _ _ (c .if1 .taken)
@@ -50,8 +50,8 @@ returns-6 c =
     (sym (f .before .before .entries-below .ensures) ∙ not-false _ (f .before .if4 .left)) (f .if5 .left)
     _ (c .before .before .write-sums .ensures)
 
-pub pass-spec : {M : Type 1} → statement M
-pass-spec =
+pub convert-spec : {M : Type 1} → statement M
+convert-spec =
     tie.close
     (tie.spec
     returns
