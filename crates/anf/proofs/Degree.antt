@@ -27,6 +27,7 @@ use Rattle.anf.proofs.Transform.{subsetSum-ext, subsetSum-xor, subsetSu
 
 -- ---- sums over tuples of points, one a part of each block
 
+-- the sum of a list of numbers
 unfoldable pub xorAll : List ℕ → ℕ
 xorAll [] = 0
 xorAll (x ∷ xs) = bitXor x (xorAll xs)
@@ -56,6 +57,7 @@ unfolding xorAll
 blocks-lt n [] h = pow-pos n
 blocks-lt n (b ∷ bs) h = xor-lt n b (xorAll bs) (h .1) (blocks-lt n bs (h .3))
 
+-- the sum of g over all tuples of a subset of each block
 unfoldable pub multi : ℕ → List ℕ → (List ℕ → ℕ) → ℕ
 multi n [] g = g []
 multi n (b ∷ bs) g = subsetSum n (λ x. multi n bs (λ xs. g (x ∷ xs))) b
