@@ -1,5 +1,5 @@
--- What a layout that describes a file tells of the file's design: its head, its limits, and how many lists each stage has. Assumes nothing.
-use mathlib.Core.Path.{_≡_, refl, sym, ap, ap₂, _∙_}
+-- What a layout that describes a file tells of the file's stages: how many there are, and how many lists each has. Assumes nothing.
+use mathlib.Core.Path.{_≡_, sym, ap, ap₂, _∙_, subst}
 use mathlib.Core.List.{List}
 use Prim.Native.Nat.{ℕ, _+_, _*_, _^_, _≤_, _<_}
 use native.Mathlib.Nat.{lt-of-lt-of-le}
@@ -7,40 +7,24 @@ use native.Mathlib.Omega.{arith}
 use lib.ListN.{length, take, drop}
 use lib.Pow.{pow-mono}
 use Rattle.anf.specs.Terms.{valueAt}
-use Rattle.anf.proofs.Testing.{tabulate-length}
 use Rattle.design.specs.Bytes.{terms, termBytes}
-use Rattle.design.specs.Design.{Stage, stageOf}
-use Rattle.design.specs.Reading.{headOf, stageAt, meaning}
+use Rattle.design.specs.Design.{stageOf}
+use Rattle.design.specs.Reading.{meaning}
 use Rattle.design.specs.Layout.{Describes}
-use Rattle.design.specs.declared.Head.{Head}
 use Rattle.design.specs.declared.Layout.{Layout}
-use Rattle.design.proofs.Found.{stage-is, limited}
+use Rattle.design.proofs.Answered.{described}
 use Rattle.design.proofs.TermBytes.{terms-of-bytes}
 use Rattle.threshold.specs.Stages.{output}
 use Rattle.threshold.proofs.Output.{window-lt}
 
 module _ (f : List ℕ) (l : Layout) (d : Describes f l) where
-  pub width : l .head .m ≡ meaning f .m
-  unfolding meaning
-  width = ap (λ (h : Head). h .m) (d .head)
-
-  pub shares : l .head .s ≡ meaning f .s
-  unfolding meaning
-  shares = ap (λ (h : Head). h .s) (d .head)
-
-  pub stages : l .head .k ≡ meaning f .k
-  unfolding meaning
-  stages = ap (λ (h : Head). h .k) (d .head)
-
   pub stages-length : length (meaning f .stages) ≡ l .head .k
-  unfolding meaning
-  stages-length = tabulate-length _ _ ∙ sym (ap (λ (h : Head). h .k) (d .head))
+  stages-length = let r = described d in r .formed .count ∙ sym (r .k)
 
   pub lists-length : (t : ℕ) → t < l .head .k → length (stageOf (meaning f) t .lists) ≡ l .head .m * l .head .s
-  unfolding stageAt
   lists-length t u =
-      ap (λ (g : Stage). length (g .lists)) (stage-is f (d .read) t (rw (d .head) at u)) ∙ tabulate-length _ _
-      ∙ sym (ap (λ (h : Head). h .m * h .s) (d .head))
+      let r = described d in
+      r .formed .stage t (subst (λ (k : ℕ). t < k) (r .k) u) .count ∙ sym (ap₂ _*_ (r .m) (r .s))
 
   -- the lists from list `from` on that code may read
   pub lists-fit : (t from n : ℕ) → t < l .head .k → from + n ≤ l .head .m * l .head .s → from + n ≤ length (stageOf (meaning f) t .lists)
@@ -50,7 +34,7 @@ module _ (f : List ℕ) (l : Layout) (d : Describes f l) where
   pub window-small : (t from n i x : ℕ) → t < l .head .k → from + n ≤ l .head .m * l .head .s
       → output (drop i (take n (drop from (stageOf (meaning f) t .lists)))) x < 2 ^ 20
   window-small t from n i x u h =
-      let b = limited f l d in
+      let b = described d .bounds in
       lt-of-lt-of-le (window-lt x n from (stageOf (meaning f) t .lists) (lists-fit t from n u h) i) (pow-mono {j = 20} (omega arith))
 
 -- the value of a list as it stands in a file

@@ -1,9 +1,9 @@
 -- `threshold::component_at` meets its contract: share j of the output is the output of the m lists from m j on.
 use native.Mathlib.Omega.{arith}
-use mathlib.Core.Path.{_≡_, refl, sym, ap, _∙_}
+use mathlib.Core.Path.{sym, _∙_}
 use Prim.Native.Nat.{ℕ, _+_, _*_, _≤_, _<_}
 use native.Mathlib.Nat.{mul-le-mul-left, mul-suc}
-use Rattle.design.proofs.Found.{limited}
+use Rattle.design.proofs.Answered.{described}
 use Rattle.threshold.proofs.Output.{output-share}
 use Rattle.threshold.proofs.engine.component_at.Statement.{statement}
 use Rattle.threshold.proofs.engine.component_at.Tie as tie
@@ -14,7 +14,7 @@ inside m s j h = let e = mul-le-mul-left m h in let q = mul-suc m j in omega ari
 mul-outputs : tie.Need-mul-outputs
 mul-outputs c =
     let p = c .before .before .pre in
-    let b = limited _ _ (p .0) in
+    let b = described (p .0) .bounds in
     let a = c .before .before .args in
     let i = inside (a .layout .head .m) (a .layout .head .s) (a .j) (p .2) in
     let o = b .bits in

@@ -1,15 +1,15 @@
 -- `threshold::output_at` meets its contract: the lists of a stage are m s.
 use native.Mathlib.Omega.{arith}
-use mathlib.Core.Path.{_≡_, refl, sym, ap, _∙_}
+use mathlib.Core.Path.{_∙_}
 use borrow.Author.Needs.{needs}
-use Rattle.design.proofs.Found.{limited}
+use Rattle.design.proofs.Answered.{described}
 use Rattle.threshold.proofs.Described.{lists-length}
 use Rattle.threshold.proofs.Output.{window-all}
 use Rattle.threshold.proofs.engine.output_at.Statement.{statement}
 use Rattle.threshold.proofs.engine.output_at.Tie as tie
 
 mul-outputs : tie.Need-mul-outputs
-mul-outputs c = let b = limited _ _ (c .before .before .pre .0) in let o = b .bits in omega arith
+mul-outputs c = let b = described (c .before .before .pre .0) .bounds in let o = b .bits in omega arith
 
 outputs-requires : tie.Need-outputs-requires
 outputs-requires c κs = search needs

@@ -1,15 +1,15 @@
 -- `threshold::outputs` meets its contract. The invariant: y is the output of the lists of the window from list i on.
 use native.Mathlib.Omega.{arith}
-use mathlib.Core.Path.{_≡_, refl, sym, ap, _∙_}
-use Prim.Native.Nat.{ℕ, _+_, _*_, _-_, _^_, _≤_, _<_}
+use mathlib.Core.Path.{_≡_, sym, _∙_}
+use Prim.Native.Nat.{_-_, _≤_}
 use denote.Ref.{now}
-use lib.ListN.{length, take, drop}
+use lib.ListN.{take, drop}
 use Rattle.design.specs.Design.{stageOf}
 use Rattle.design.specs.Reading.{meaning}
 use Rattle.threshold.specs.Stages.{output}
 use Rattle.anf.proofs.Terms.{valueAt-lt}
 use Rattle.design.specs.Bytes.{terms}
-use Rattle.design.proofs.Found.{limited}
+use Rattle.design.proofs.Answered.{described}
 use Rattle.threshold.proofs.Described.{lists-fit, window-small, list-value}
 use Rattle.threshold.proofs.Output.{window-start, window-step, window-lt}
 use Rattle.threshold.proofs.engine.outputs.Statement.{statement}
@@ -32,7 +32,7 @@ sub-i : tie.Need-sub-i Inv-loop μ-loop
 sub-i c = omega arith
 
 add-list : tie.Need-add-list Inv-loop μ-loop
-add-list c = let b = limited _ _ (c .before .before .before .pre .0) in let h = c .before .before .before .pre .2 in omega arith
+add-list c = let b = described (c .before .before .before .pre .0) .bounds in let h = c .before .before .before .pre .2 in omega arith
 
 list-requires : tie.Need-list-requires Inv-loop μ-loop
 list-requires c κs =

@@ -1,8 +1,8 @@
 -- `threshold::sum_of` meets its contract. The invariant: what is summed so far, with the sum of the shares that are left, is the sum of all.
 use native.Mathlib.Omega.{arith}
 use mathlib.Core.Path.{_≡_, refl, sym, ap, _∙_}
-use Prim.Native.Nat.{ℕ, _-_, _^_, _/_}
-use lib.Bits.{bitAnd, bitXor, xor-zero-r}
+use Prim.Native.Nat.{ℕ, _-_}
+use lib.Bits.{bitXor, xor-zero-r}
 use Rattle.threshold.specs.Sharing.{sum}
 use Rattle.threshold.proofs.Sharing.{sum-none, sum-step, sum-lt}
 use Rattle.threshold.proofs.engine.sum_of.Statement.{statement}
