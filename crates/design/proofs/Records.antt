@@ -8,7 +8,7 @@ use native.Mathlib.Omega.{arith}
 use native.Mathlib.Nat.{mul-le-mul, mul-mod-left, add-mul-mod-self-right}
 use native.Mathlib.Decide.{decLt}
 use native.Mathlib.Numerals.{add-one}
-use borrow.Author.Tests.{ltb-true, ltb-false, leb-true, leb-false, eqb-true, eqb-false, lt-ltb, le-ltb, le-leb, lt-leb, eq-eqb, ne-eqb}
+use borrow.Author.Tests.{ltb-true, ltb-false, leb-true, leb-false, eqb-true, eqb-false, lt-ltb, le-ltb, le-leb, lt-leb, eq-eqb, ne-eqb, not-false}
 use lib.ListN.{length, getD, take, drop}
 use lib.Dec.{ltb, leb, eqb, lit<}
 use Rattle.anf.specs.Tests.{pick, all, tabulate}
@@ -65,12 +65,12 @@ pub framed : (f : List ℕ) (at kind size : ℕ) → frame f at kind size ≡ 0 
 unfolding frame
 framed f at kind size e =
     let a = past _ _ _ (lit< tt) e in
-    let b = kept _ _ _ (lit< tt) (a .1) in
-    let c = kept _ _ _ (lit< tt) (b .1) in
+    let b = past _ _ _ (lit< tt) (a .1) in
+    let c = past _ _ _ (lit< tt) (b .1) in
     let d = past _ _ _ (lit< tt) (c .1) in
     let h : 4 ≤ length f - at = ltb-false _ _ (a .0) in
     let l : u16At f at ≤ length f - at - 4 = ltb-false _ _ (d .0) in
-    record { head = omega arith; kind = eqb-true _ _ (b .0); size = c .0; rest = omega arith }
+    record { head = omega arith; kind = eqb-true _ _ (not-false _ (b .0)); size = not-false _ (c .0); rest = omega arith }
 
 module _ (f : List ℕ) (h : Head) (kind start n : ℕ) where
   pub body-2 : kind ≡ 2 → body f h kind start n ≡ pick (all n (entryFits f start (2 ^ h .m))) 0 5

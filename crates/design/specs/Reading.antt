@@ -1,7 +1,7 @@
 -- Reading: the first fault of a file with its place, or the design that it means.
 use Prim.Native.Nat.{ℕ, zero, suc, _+_, _*_, _-_, _/_, _%_, _^_}
 use mathlib.Core.List.{List}
-use mathlib.Core.Bool.{Bool, _&&_, _||_}
+use mathlib.Core.Bool.{Bool, _&&_, _||_, not}
 use lib.ListN.{length, take, drop}
 use lib.Dec.{ltb, leb, eqb}
 use Rattle.anf.specs.Tests.{pick, all, tabulate}
@@ -52,11 +52,9 @@ lengthDue kind size n = pick (eqb kind 3) (eqb (n % 4) 0 && leb n size) (eqb n s
 unfoldable pub frame : List ℕ → ℕ → ℕ → ℕ → ℕ
 frame f at kind size =
     pick (ltb (length f - at) 4) 1
-    (pick (eqb (u16At f (at + 2)) kind)
-    (pick (lengthDue kind size (u16At f at))
-    (pick (ltb (length f - at - 4) (u16At f at)) 1 0)
-    3)
-    2)
+    (pick (not (eqb (u16At f (at + 2)) kind)) 2
+    (pick (not (lengthDue kind size (u16At f at))) 3
+    (pick (ltb (length f - at - 4) (u16At f at)) 1 0)))
 
 -- a table's entry x is below bound
 unfoldable pub entryFits : List ℕ → ℕ → ℕ → ℕ → Bool
