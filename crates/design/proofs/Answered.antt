@@ -1,10 +1,10 @@
 -- What crates above take from the reader's answer: with reason 0 the file reads, what it means is well formed, and the head is the design's;
 -- with another reason the definition refuses with that reason and place.
 use Prim.Native.Nat.{ℕ}
-use mathlib.Core.Path.{_≡_, refl, sym, ap, _∙_}
+use mathlib.Core.Path.{_≡_, ap, _∙_}
 use mathlib.Core.List.{List}
 use Rattle.design.specs.Design.{Design, WellFormed}
-use Rattle.design.specs.Reading.{Reading, refused, means, reading, meaning, headOf, reasonOf, placeOf}
+use Rattle.design.specs.Reading.{Reading, refused, means, reading, meaning, reasonOf, placeOf}
 use Rattle.design.specs.Layout.{Describes, Answers}
 use Rattle.design.specs.declared.Head.{Head}
 use Rattle.design.specs.declared.Layout.{Layout}

@@ -1,14 +1,14 @@
 -- The bench designs of reading: every row of the table, by computing. And D is the file of what it means.
 use Prim.Native.Nat.{ℕ}
 use mathlib.Core.Path.{_≡_, refl}
-use mathlib.Core.List.{List, map}
+use mathlib.Core.List.{map}
 use Rattle.anf.specs.Tests.{all, tabulate}
 use Rattle.anf.specs.Terms.{before}
 use Rattle.design.specs.Limits.{broken}
 use Rattle.design.specs.Bytes.{u16At, u32At, termBytes}
 use Rattle.design.specs.Encode.{join, aRecord, stageBytes, encode}
-use Rattle.design.specs.Reading.{Reading, lastOf, numberOf, kindDue, sizeDue, lengthDue, frame, entryFits, previous, termFits, body, faultAt, place, tableAt, listAt, stageAt, meaning, walk, reading}
-use Rattle.design.specs.Bench.{fileD, designD, Row, rows}
+use Rattle.design.specs.Reading.{lastOf, numberOf, kindDue, sizeDue, lengthDue, frame, entryFits, previous, termFits, body, faultAt, place, tableAt, listAt, stageAt, meaning, walk, reading}
+use Rattle.design.specs.Bench.{fileD, designD, rows}
 
 -- the definitions that computing a reading opens
 unfoldable pub computing : ℕ

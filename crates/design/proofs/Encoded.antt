@@ -2,25 +2,23 @@
 -- no fault, and what stands there is the design's.
 use Prim.Native.Nat.{ℕ, zero, suc, _+_, _*_, _-_, _/_, _%_, _^_, _≤_, _<_}
 use mathlib.Core.Path.{_≡_, refl, sym, ap, _∙_}
-use mathlib.Core.List.{List, [], _∷_, _++_, append-nil}
-use mathlib.Core.Bool.{Bool, true, false, _||_}
+use mathlib.Core.List.{List, [], _∷_, _++_}
+use mathlib.Core.Bool.{true, _||_}
 use Rattle.anf.specs.Terms.{before}
 use Rattle.anf.proofs.Testing.{all-intro}
 use native.Mathlib.Omega.{arith}
 use native.Mathlib.Numerals.{add-one}
 use native.Mathlib.Nat.{add-zero}
-use borrow.Author.Tests.{ltb-true, ltb-false, leb-true, leb-false, eqb-true, eqb-false, lt-ltb, le-ltb, le-leb, lt-leb, eq-eqb, ne-eqb}
-use lib.ListN.{length, getD, take, drop, length-drop, length-append, List·getD-append}
+use borrow.Author.Tests.{le-ltb, le-leb, eq-eqb, ne-eqb}
+use lib.ListN.{length, getD, drop, length-drop, length-append, List·getD-append}
 use lib.Seq.{getD-drop, drop-drop, drop-append-seam, take-append-seam, drop-append-le}
-use lib.Dec.{ltb, leb, eqb, lit<}
-use Rattle.anf.specs.Tests.{pick, all, tabulate}
+use lib.Dec.{eqb}
+use Rattle.anf.specs.Tests.{tabulate}
 use Rattle.design.proofs.Flat.{headFor, stageBody, bodyOf, recordOf, flat}
-use Rattle.design.specs.Bytes.{byte, u16At, u32At, two, four, termBytes, Bytes}
-use Rattle.design.specs.Design.{Design, Stage, noStage, stageOf, listOf, TableFits, ListFits, StageFits, WellFormed}
+use Rattle.design.specs.Bytes.{byte, u16At, u32At, two, four, termBytes}
+use Rattle.design.specs.Design.{Design, Stage, noStage, stageOf, listOf, TableFits, ListFits, WellFormed}
 use Rattle.design.specs.Encode.{join, aRecord}
-use Rattle.design.specs.Layout.{Limits}
-use Rattle.design.specs.Limits.{broken}
-use Rattle.design.specs.Reading.{lastOf, numberOf, kindDue, sizeDue, lengthDue, frame, entryFits, previous, termFits, body, faultAt, Reading, refused, means, reading, walk, place, headOf, meaning, stageAt, tableAt, listAt}
+use Rattle.design.specs.Reading.{lastOf, numberOf, kindDue, sizeDue, lengthDue, frame, entryFits, previous, termFits, body, faultAt, means, reading, walk, place, headOf, meaning, stageAt, tableAt, listAt}
 use Rattle.design.specs.declared.Head.{Head}
 use Rattle.design.proofs.Records.{body-2, body-3, body-4, fault-body, entry-fits, term-fits}
 use Rattle.design.proofs.Walking.{place-next}

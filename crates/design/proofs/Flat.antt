@@ -1,6 +1,6 @@
 -- The file of a design as records by their numbers, which is how the reader meets them. `Nested` shows that it is the file of the definition.
 use Prim.Native.Nat.{ℕ, zero, suc, _+_, _*_, _-_, _/_, _%_}
-use mathlib.Core.List.{List, [], _∷_}
+use mathlib.Core.List.{List, []}
 use lib.ListN.{getD}
 use lib.Dec.{eqb}
 use Rattle.anf.specs.Tests.{pick, tabulate}

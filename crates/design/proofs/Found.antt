@@ -2,29 +2,28 @@
 -- and a list's terms stand where the design has them.
 use Prim.Native.Nat.{ℕ, zero, suc, _+_, _*_, _-_, _/_, _%_, _^_, _≤_, _<_}
 use mathlib.Core.Path.{_≡_, refl, sym, ap, _∙_}
-use mathlib.Core.List.{List, [], _∷_}
+use mathlib.Core.List.{List, []}
 use mathlib.Core.Bool.{Bool, true, false}
 use native.Mathlib.Omega.{arith}
 use native.Mathlib.Decide.{decLt}
 use native.Mathlib.Nat.{mod-lt, div-add-mod', div-lt-iff-lt-mul, add-zero}
 use native.Mathlib.Numerals.{add-one}
-use borrow.Author.Tests.{ltb-true, ltb-false, leb-true, leb-false, eqb-true, eqb-false, lt-ltb, le-ltb, le-leb, lt-leb, eq-eqb, ne-eqb}
+use borrow.Author.Tests.{ltb-false, eqb-true, ne-eqb}
 use lib.ListN.{length, getD, take, drop}
 use lib.Seq.{getD-take, getD-drop}
 use lib.Arith.{digits-lt, digits-mod, digits-div}
-use lib.Dec.{ltb, leb, eqb, lit<}
-use Rattle.anf.specs.Tests.{pick, all, tabulate}
-use Rattle.design.specs.Bytes.{byte, u16At, u32At}
-use Rattle.design.specs.Design.{Design, Stage, noStage, stageOf, listOf}
+use lib.Dec.{ltb, eqb, lit<}
+use Rattle.anf.specs.Tests.{pick}
+use Rattle.design.specs.Bytes.{byte, u16At}
+use Rattle.design.specs.Design.{Design, noStage, stageOf, listOf}
 use Rattle.design.specs.Layout.{Limits, Describes}
-use Rattle.design.specs.Limits.{broken}
-use Rattle.design.specs.Reading.{lastOf, numberOf, kindDue, sizeDue, lengthDue, frame, body, faultAt, Reading, refused, means, reading, walk, place, headOf, meaning, stageAt, tableAt, listAt}
+use Rattle.design.specs.Reading.{lastOf, numberOf, kindDue, sizeDue, lengthDue, faultAt, Reading, refused, means, reading, walk, place, headOf, meaning, stageAt, tableAt, listAt}
 use Rattle.design.specs.declared.Head.{Head}
 use Rattle.design.specs.declared.Layout.{Layout}
-use Rattle.anf.proofs.Testing.{tabulate-length, tabulate-at}
+use Rattle.anf.proofs.Testing.{tabulate-at}
 use Rattle.design.proofs.Limits.{Bounds, bounds}
-use Rattle.design.proofs.Records.{Framed, past, kept}
-use Rattle.design.proofs.Walking.{frame-none, body-none, fault-framed, head-body, place-next}
+use Rattle.design.proofs.Records.{Framed, past}
+use Rattle.design.proofs.Walking.{frame-none, fault-framed, head-body, place-next}
 
 -- a walk that ends in a design met no fault
 module _ (f : List ℕ) (h : Head) (d : Design) where

@@ -1,12 +1,12 @@
 -- Laws of lists by their numbers and of lists one behind the other.
-use Prim.Native.Nat.{ℕ, zero, suc, _+_, _*_, _-_, _/_, _%_, _^_, _≤_, _<_}
-use mathlib.Core.Path.{_≡_, refl, sym, ap, _∙_, fun-ext}
-use mathlib.Core.List.{List, [], _∷_, _++_, append-assoc, append-nil}
+use Prim.Native.Nat.{ℕ, zero, suc, _<_}
+use mathlib.Core.Path.{_≡_, sym, ap, _∙_}
+use mathlib.Core.List.{List, [], _++_, append-assoc, append-nil}
 use native.Mathlib.Omega.{arith}
 use native.Mathlib.Decide.{decLt}
-use lib.ListN.{length, getD, take, drop, length-append}
+use lib.ListN.{length, getD}
 use lib.Seq.{ext-getD}
-use Rattle.anf.specs.Tests.{pick, all, tabulate}
+use Rattle.anf.specs.Tests.{tabulate}
 use Rattle.design.specs.Encode.{join}
 use Rattle.anf.proofs.Testing.{tabulate-length, tabulate-at}
 

@@ -2,6 +2,7 @@
 pub mod Limits
 pub mod Records
 pub mod Walking
+pub mod Reasons
 pub mod Found
 pub mod Flat
 pub mod Joined

@@ -1,12 +1,15 @@
 -- What a head within the limits says: the limits as inequalities, one by one, and what follows for products.
 use Prim.Native.Nat.{ℕ, _+_, _*_, _≤_}
-use mathlib.Core.Path.{_≡_}
-use mathlib.Core.Bool.{Bool, false}
+use mathlib.Core.Path.{_≡_, refl}
+use mathlib.Core.Bool.{Bool, true, false}
 use native.Mathlib.Omega.{arith}
 use native.Mathlib.Nat.{mul-le-mul}
 use borrow.Author.Tests.{ltb-false}
 use Rattle.design.specs.Limits.{greatestWidth, leastShares, greatestShares, greatestShareBits, greatestStages, broken}
 use Rattle.anf.proofs.Testing.{or-false}
+use Rattle.anf.specs.Tests.{pick}
+use Rattle.design.specs.Layout.{checked, refusalOf}
+use Rattle.design.specs.declared.Checked.the-variants.{Good, Beyond}
 
 pub record Bounds (m s k : ℕ) : Type 0 where
   pub m-low : 1 ≤ m
@@ -46,3 +49,11 @@ bounds m s k e =
       k-low = ltb-false _ _ (b .1);
       k-high = ltb-false _ _ (a .1);
     }
+
+-- the paper's number for the constructor's answer
+pub refusal-checked : (m s k : ℕ) → refusalOf (checked m s k) ≡ pick (broken m s k) 4 0
+refusal-checked m s k = go (broken m s k)
+  where
+    go : (b : Bool) → refusalOf (pick b Beyond (Good (record { m = m; s = s; k = k }))) ≡ pick b 4 0
+    go true = refl
+    go false = refl

@@ -1,5 +1,5 @@
 -- The file record by record is the file as the paper tells it.
-use Prim.Native.Nat.{ℕ, zero, suc, _+_, _*_, _-_, _/_, _%_, _^_, _≤_, _<_}
+use Prim.Native.Nat.{ℕ, zero, suc, _+_, _*_, _≤_, _<_}
 use mathlib.Core.Path.{_≡_, refl, sym, ap, _∙_}
 use mathlib.Core.List.{List, [], _∷_, _++_, map, append-assoc, append-nil}
 use native.Mathlib.Omega.{arith}
@@ -10,10 +10,9 @@ use lib.ListN.{length, getD}
 use Rattle.anf.specs.Tests.{tabulate}
 use Rattle.design.proofs.Flat.{headFor, stageBody, bodyOf, recordOf, flat}
 use Rattle.design.specs.Bytes.{termBytes}
-use Rattle.design.specs.Design.{Design, Stage, noStage, stageOf, listOf, WellFormed}
+use Rattle.design.specs.Design.{Design, noStage, stageOf, listOf, WellFormed}
 use Rattle.design.specs.Encode.{join, aRecord, stageBytes, encode}
 use Rattle.design.specs.Reading.{lastOf, numberOf, kindDue}
-use Rattle.design.specs.declared.Head.{Head}
 use Rattle.design.proofs.Found.{staged}
 use Rattle.design.proofs.Joined.{join-snoc}
 use Rattle.anf.proofs.Testing.{tabulate-congr}

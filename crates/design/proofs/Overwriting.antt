@@ -4,10 +4,10 @@ use mathlib.Core.Path.{_≡_, refl, sym, ap, _∙_}
 use mathlib.Core.List.{List, [], _∷_, _++_, map, append-assoc, append-nil}
 use native.Mathlib.Omega.{arith}
 use native.Mathlib.Numerals.{add-one}
-use native.Mathlib.Nat.{add-zero, zero-add}
+use native.Mathlib.Nat.{zero-add}
 use lib.ListN.{length, getD, set, take, drop, length-append}
 use lib.Seq.{sets, sets-eq, paste, paste-zero, paste-suc, take-length, length-take-le, drop-drop, take-at, drop-at, take-append-seam, drop-append-seam, drop-append-add, length-paste}
-use Rattle.design.specs.Bytes.{four, overwrite}
+use Rattle.design.specs.Bytes.{overwrite}
 use Rattle.design.specs.Encode.{join, recordHead, aRecord}
 
 -- straight-line stores of four bytes

@@ -1,20 +1,16 @@
 -- Laws of one record: its entries, its terms, its frame and its body, and what a record without fault says.
-use Prim.Native.Nat.{ℕ, zero, suc, _+_, _*_, _-_, _/_, _%_, _^_, _≤_, _<_}
-use mathlib.Core.Path.{_≡_, refl, sym, ap, _∙_}
-use mathlib.Core.List.{List, [], _∷_}
+use Prim.Native.Nat.{ℕ, _+_, _*_, _-_, _/_, _%_, _^_, _≤_, _<_}
+use mathlib.Core.Path.{_≡_, refl, _∙_}
+use mathlib.Core.List.{List}
 use mathlib.Core.Bool.{Bool, true, false, _||_}
-use mathlib.Core.Logic.{⊎-elim}
 use native.Mathlib.Omega.{arith}
-use native.Mathlib.Nat.{mul-le-mul, mul-mod-left, add-mul-mod-self-right}
-use native.Mathlib.Decide.{decLt}
 use native.Mathlib.Numerals.{add-one}
-use borrow.Author.Tests.{ltb-true, ltb-false, leb-true, leb-false, eqb-true, eqb-false, lt-ltb, le-ltb, le-leb, lt-leb, eq-eqb, ne-eqb, not-false}
-use lib.ListN.{length, getD, take, drop}
-use lib.Dec.{ltb, leb, eqb, lit<}
-use Rattle.anf.specs.Tests.{pick, all, tabulate}
+use borrow.Author.Tests.{ltb-false, eqb-true, lt-ltb, le-ltb, ne-eqb, not-false}
+use lib.ListN.{length}
+use lib.Dec.{eqb, lit<}
+use Rattle.anf.specs.Tests.{pick, all}
 use Rattle.design.specs.Bytes.{byte, u16At, u32At}
-use Rattle.design.specs.Limits.{broken}
-use Rattle.design.specs.Reading.{lastOf, numberOf, kindDue, sizeDue, lengthDue, frame, entryFits, previous, termFits, body, faultAt}
+use Rattle.design.specs.Reading.{lastOf, kindDue, sizeDue, lengthDue, frame, entryFits, previous, termFits, body, faultAt}
 use Rattle.design.specs.declared.Head.{Head}
 use Rattle.anf.specs.Terms.{before}
 use Rattle.anf.proofs.Testing.{and-false-right}
@@ -93,6 +89,14 @@ module _ (f : List ℕ) (h : Head) (i at kind size : ℕ) (k : kind ≡ kindDue 
   pub fault-body : frame f at kind size ≡ 0 → faultAt f h i at ≡ body f h kind (at + 4) (u16At f at)
   unfolding faultAt
   fault-body e = rw (← k) (rw (← s) (simp e))
+
+  -- the fault of a table, and that of a list, where the frame has none
+  module _ (z : frame f at kind size ≡ 0) {n p : ℕ} {t b : Bool} (q : n ≡ u16At f at) where
+    pub fault-table : kind ≡ 2 → p ≡ 2 ^ h .m → t ≡ all n (entryFits f (at + 4) p) → t ≡ b → faultAt f h i at ≡ pick b 0 5
+    fault-table e r a w = fault-body z ∙ body-2 f h kind (at + 4) (u16At f at) e ∙ rw (← q, ← r, ← a, w) refl
+
+    pub fault-list : kind ≡ 3 → p ≡ 2 ^ (h .m * h .s) → t ≡ all (n / 4) (termFits f (at + 4) p) → t ≡ b → faultAt f h i at ≡ pick b 0 6
+    fault-list e r a w = fault-body z ∙ body-3 f h kind (at + 4) (u16At f at) e ∙ rw (← q, ← r, ← a, w) refl
 
 pub kind-later : (h : Head) (i : ℕ) → 1 ≤ i → kindDue h i ≡ 1 → ⊥
 unfolding kindDue

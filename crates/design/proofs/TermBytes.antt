@@ -11,7 +11,7 @@ use Rattle.anf.proofs.Xor.{xor-assoc}
 use Rattle.anf.specs.Tests.{pick}
 use Rattle.anf.specs.NormalForm.{subset}
 use Rattle.anf.specs.Terms.{valueAt}
-use Rattle.design.specs.Bytes.{byte, little, u32At, four, termBytes, terms}
+use Rattle.design.specs.Bytes.{little, u32At, termBytes, terms}
 
 -- the terms from a place on
 pub terms-cons : (l : List ℕ) (at : ℕ) → at + 4 ≤ length l → terms (drop at l) ≡ u32At l at ∷ terms (drop (at + 4) l)

@@ -4,15 +4,13 @@ use Prim.Native.Nat.{ℕ, _*_, _^_, _<_}
 use mathlib.Core.Path.{_≡_, refl, sym, ap, _∙_}
 use mathlib.Core.List.{List, []}
 use mathlib.Core.Logic.{_↔_}
-use native.Mathlib.Omega.{arith}
-use lib.ListN.{length, getD}
 use lib.Seq.{ext-getD}
 use Rattle.anf.specs.Terms.{valueAt}
 use Rattle.anf.proofs.Terms.{unique-terms}
 use Rattle.design.specs.Bytes.{Bytes}
-use Rattle.design.specs.Design.{Stage, Design, WellFormed, noStage, stageOf, listOf}
+use Rattle.design.specs.Design.{Design, WellFormed, noStage, stageOf, listOf}
 use Rattle.design.specs.Encode.{encode}
-use Rattle.design.specs.Reading.{means, reading, meaning}
+use Rattle.design.specs.Reading.{means, reading}
 use Rattle.design.proofs.Written.{read-means, read-flat}
 use Rattle.design.proofs.Encoded.{flat-reads, stage-eq, design-eq}
 use Rattle.design.proofs.Formed.{formed}

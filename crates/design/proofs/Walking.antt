@@ -1,21 +1,21 @@
 -- Laws of the walk over the records: a step, a refusal, the end, and what the reader's loop keeps.
-use Prim.Native.Nat.{ℕ, zero, suc, _+_, _*_, _-_, _/_, _%_, _^_, _≤_, _<_}
+use Prim.Native.Nat.{ℕ, suc, _+_, _-_, _≤_, _<_}
 use mathlib.Core.Path.{_≡_, refl, sym, ap, _∙_}
-use mathlib.Core.List.{List, [], _∷_}
+use mathlib.Core.List.{List}
 use mathlib.Core.Bool.{Bool, true, false}
 use native.Mathlib.Omega.{arith}
 use native.Mathlib.Decide.{decLt}
 use native.Mathlib.Nat.{sub-zero}
 use native.Mathlib.Numerals.{add-one}
-use borrow.Author.Tests.{ltb-true, ltb-false, leb-true, leb-false, eqb-true, eqb-false, lt-ltb, le-ltb, le-leb, lt-leb, eq-eqb, ne-eqb}
-use lib.ListN.{length, getD, take, drop, set, length-set}
+use borrow.Author.Tests.{eqb-true, lt-ltb, le-ltb, ne-eqb}
+use lib.ListN.{length, getD, set, length-set}
 use lib.Seq.{getD-set-same, getD-set-other}
-use lib.Dec.{ltb, leb, eqb, lit<}
-use Rattle.anf.specs.Tests.{pick, all, tabulate}
-use Rattle.design.specs.Bytes.{byte, u16At, u32At}
-use Rattle.design.specs.Layout.{checked, Limits, Answers, Describes}
+use lib.Dec.{eqb}
+use Rattle.anf.specs.Tests.{pick}
+use Rattle.design.specs.Bytes.{byte, u16At}
+use Rattle.design.specs.Layout.{checked, Limits, Answers}
 use Rattle.design.specs.Limits.{broken}
-use Rattle.design.specs.Reading.{lastOf, numberOf, kindDue, sizeDue, lengthDue, frame, body, faultAt, Reading, refused, means, reading, walk, place, headOf, meaning, reasonOf, placeOf}
+use Rattle.design.specs.Reading.{lastOf, kindDue, sizeDue, lengthDue, frame, body, faultAt, refused, means, reading, walk, place, headOf, meaning}
 use Rattle.design.specs.declared.Head.{Head}
 use Rattle.design.specs.declared.Layout.{Layout}
 use Rattle.design.specs.declared.Checked.{Checked}

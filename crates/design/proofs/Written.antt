@@ -3,30 +3,27 @@
 use Prim.Native.Nat.{ℕ, zero, suc, _+_, _*_, _-_, _/_, _%_, _^_, _≤_, _<_}
 use mathlib.Core.Path.{_≡_, refl, sym, ap, _∙_, fun-ext}
 use mathlib.Core.List.{List, [], _∷_, _++_}
-use mathlib.Core.Bool.{Bool, true, false}
+use mathlib.Core.Bool.{true}
 use native.Mathlib.Omega.{arith}
-use native.Mathlib.Decide.{decLt}
 use native.Mathlib.Numerals.{add-one}
-use native.Mathlib.Nat.{add-assoc}
-use borrow.Author.Tests.{ltb-true, ltb-false, leb-true, leb-false, eqb-true, eqb-false, lt-ltb, le-ltb, le-leb, lt-leb, eq-eqb, ne-eqb}
+use borrow.Author.Tests.{leb-true, eqb-true, eq-eqb, ne-eqb}
 use lib.ListN.{length, getD, take, drop, length-drop}
-use lib.Seq.{getD-take, getD-drop, take-add, take-all, drop-drop, drop-cons, length-take-le}
-use lib.Dec.{ltb, leb, eqb, lit<}
-use Rattle.anf.specs.Tests.{pick, all, tabulate}
+use lib.Seq.{take-add, take-all, drop-cons, length-take-le}
+use lib.Dec.{eqb}
+use Rattle.anf.specs.Tests.{tabulate}
 use Rattle.design.proofs.Flat.{headFor, stageBody, bodyOf, recordOf, flat}
-use Rattle.design.specs.Bytes.{byte, u16At, u32At, two, four, termBytes, Bytes}
-use Rattle.design.specs.Design.{Design, Stage, noStage, stageOf, listOf, WellFormed}
+use Rattle.design.specs.Bytes.{byte, u16At, u32At, termBytes, Bytes}
+use Rattle.design.specs.Design.{Design, stageOf, listOf}
 use Rattle.design.specs.Encode.{join, aRecord}
-use Rattle.design.specs.Layout.{Limits, Describes}
-use Rattle.design.specs.Limits.{broken}
-use Rattle.design.specs.Reading.{lastOf, numberOf, kindDue, sizeDue, lengthDue, frame, body, faultAt, Reading, refused, means, reading, walk, place, headOf, meaning, stageAt, tableAt, listAt}
+use Rattle.design.specs.Layout.{Describes}
+use Rattle.design.specs.Reading.{lastOf, numberOf, kindDue, sizeDue, lengthDue, means, reading, place, headOf, meaning, stageAt, tableAt, listAt}
 use Rattle.design.specs.declared.Head.{Head}
 use Rattle.design.specs.declared.Layout.{Layout}
-use Rattle.anf.proofs.Testing.{tabulate-length, tabulate-at, tabulate-congr, and-left, and-right}
+use Rattle.anf.proofs.Testing.{tabulate-congr, and-left, and-right}
 use Rattle.design.proofs.Records.{Framed}
-use Rattle.design.proofs.Walking.{frame-none, body-none, fault-framed, head-body, head-size, place-next}
-use Rattle.design.proofs.Found.{none, number-two, number-low, number-div, number-mod, record-cases, ends, fine, limits-file, stage-is, list-is, table-framed, list-framed, Part}
-use Rattle.design.proofs.Joined.{join-snoc, join-at}
+use Rattle.design.proofs.Walking.{frame-none, fault-framed, head-size}
+use Rattle.design.proofs.Found.{number-two, number-low, number-div, number-mod, record-cases, ends, fine, stage-is, list-is, table-framed, list-framed, Part}
+use Rattle.design.proofs.Joined.{join-snoc}
 
 -- record i of the file f as it stands
 abbrev span : List ℕ → ℕ → List ℕ

@@ -47,9 +47,10 @@ rows =
     row [] (refused 1 0) ∷
     row (3 ∷ 0 ∷ 1 ∷ []) (refused 1 0) ∷
     row (3 ∷ 0 ∷ 1 ∷ 0 ∷ 1 ∷ 3 ∷ []) (refused 1 0) ∷
-    -- the wrong kind with a cut body, then a wrong length with a cut body
+    -- the wrong kind with a cut body, also with a wrong length; a wrong length with a cut body
     row (3 ∷ 0 ∷ 2 ∷ 0 ∷ 1 ∷ []) (refused 2 0) ∷
     row (headFile 1 3 ++ (2 ∷ 0 ∷ 3 ∷ 0 ∷ [])) (refused 2 7) ∷
+    row (headFile 1 3 ++ (3 ∷ 0 ∷ 3 ∷ 0 ∷ [])) (refused 2 7) ∷
     row (headFile 1 3 ++ (3 ∷ 0 ∷ 2 ∷ 0 ∷ [])) (refused 3 7) ∷
     -- an entry of 2
     row (headFile 1 3 ++ (2 ∷ 0 ∷ 2 ∷ 0 ∷ 0 ∷ 2 ∷ [])) (refused 5 7) ∷

@@ -1,3 +1,4 @@
+-- `design::pair` meets its contract: two bytes, the lower first.
 use native.Mathlib.Omega.{arith}
 use Rattle.design.specs.Bytes.{u16At}
 use borrow.Author.Needs.{needs}

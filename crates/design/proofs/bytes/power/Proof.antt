@@ -1,3 +1,4 @@
+-- `design::power` meets its contract: the shift does not reach the top.
 use native.Mathlib.Omega.{arith}
 use lib.Pow.{shl-exact}
 use lib.Dec.{lit<}

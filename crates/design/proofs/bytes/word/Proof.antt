@@ -1,3 +1,4 @@
+-- `design::word` meets its contract: four bytes, the lowest first.
 use Rattle.design.specs.Bytes.{u32At}
 use borrow.Author.Needs.{needs}
 use Rattle.design.proofs.bytes.word.Statement.{statement}

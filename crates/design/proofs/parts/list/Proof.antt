@@ -1,8 +1,5 @@
 -- `design::list` meets its contract: the bytes of a list are a part of the file.
 use native.Mathlib.Omega.{arith}
-use mathlib.Core.Path.{_≡_, refl, sym, ap, _∙_}
-use Prim.Native.Nat.{ℕ, _+_, _*_, _-_, _≤_, _<_}
-use denote.Ref.{now}
 use native.Mathlib.Nat.{add-sub-cancel-left}
 use Rattle.design.proofs.Found.{limits, limited}
 use Rattle.design.proofs.Written.{list-part}

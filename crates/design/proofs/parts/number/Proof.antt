@@ -1,9 +1,10 @@
+-- `design::number` meets its contract: a stage's records stand behind those of the stages before it, all before the end.
 use native.Mathlib.Omega.{arith}
-use mathlib.Core.Path.{_≡_, refl, sym, ap, _∙_}
+use mathlib.Core.Path.{refl}
 use Rattle.design.proofs.Limits.{bounds, records}
 use Rattle.design.specs.Reading.{numberOf, lastOf}
 use lib.Arith.{digits-lt}
-use Prim.Native.Nat.{_+_, _*_, suc-le-suc}
+use Prim.Native.Nat.{_+_, _*_}
 use Rattle.design.proofs.parts.number.Statement.{statement}
 use Rattle.design.proofs.parts.number.Tie as tie
 

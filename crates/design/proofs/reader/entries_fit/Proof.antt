@@ -1,10 +1,10 @@
+-- `design::entries_fit` meets its contract. The invariant: the entries passed are below the bound.
 use Rattle.design.proofs.Records.{entry-high, entry-fits}
 use native.Mathlib.Omega.{arith}
-use mathlib.Core.Path.{_≡_, refl, sym, ap, _∙_}
-use borrow.Author.Tests.{ltb-true, ltb-false, leb-true, leb-false, eqb-true, eqb-false, lt-ltb, le-ltb, le-leb, lt-leb, eq-eqb, ne-eqb}
+use mathlib.Core.Path.{_≡_, refl, sym}
 use borrow.Author.Needs.{needs}
-use Prim.Native.Nat.{ℕ, _≤_, _<_, _+_, _*_, _-_}
-use mathlib.Core.Bool.{true, false}
+use Prim.Native.Nat.{_≤_, _-_}
+use mathlib.Core.Bool.{true}
 use Rattle.anf.proofs.Testing.{all-fails, all-more}
 use Rattle.anf.specs.Tests.{all}
 use Rattle.design.specs.Reading.{entryFits}

@@ -1,7 +1,8 @@
+-- `design::fault` meets its contract: the frame's fault first, then that of the body by its kind.
 use native.Mathlib.Omega.{arith}
-use mathlib.Core.Path.{_≡_, refl, sym, ap, _∙_}
+use mathlib.Core.Path.{sym, _∙_}
 use Rattle.design.proofs.Limits.{bounds}
-use Rattle.design.proofs.Records.{framed, fault-frame, fault-body, body-2, body-3, body-4, kind-later}
+use Rattle.design.proofs.Records.{framed, fault-frame, fault-body, fault-table, fault-list, body-4, kind-later}
 use lib.Pow.{pow-mono}
 use borrow.Author.Needs.{needs}
 use Rattle.design.proofs.reader.fault.Statement.{statement}
@@ -32,10 +33,10 @@ entries-fit-requires : tie.Need-entries-fit-requires
 entries-fit-requires c κs = let w = framed _ _ _ _ (sym (c .before .before .before .before .framed .ensures) ∙ c .before .before .before .if1 .left) in omega arith
 
 returns-2 : tie.Need-returns-2
-returns-2 c = let t = rw (c .before .before .before .before .pair .ensures .0, c .before .before .power .ensures) at (sym (c .before .entries-fit .ensures) ∙ c .if3 .taken) in sym (fault-body _ _ _ _ _ _ (c .before .before .before .before .before .before .before .before .kind-due .ensures) (c .before .before .before .before .before .before .before .size-due .ensures) (sym (c .before .before .before .before .before .before .framed .ensures) ∙ c .before .before .before .before .before .if1 .left) ∙ body-2 _ _ _ _ _ (c .before .before .before .if2 .taken) ∙ simp t)
+returns-2 c = sym (fault-table _ _ _ _ _ _ (c .before .before .before .before .before .before .before .before .kind-due .ensures) (c .before .before .before .before .before .before .before .size-due .ensures) (sym (c .before .before .before .before .before .before .framed .ensures) ∙ c .before .before .before .before .before .if1 .left) (c .before .before .before .before .pair .ensures .0) (c .before .before .before .if2 .taken) (c .before .before .power .ensures) (c .before .entries-fit .ensures) (c .if3 .taken))
 
 returns-3 : tie.Need-returns-3
-returns-3 c = let t = rw (c .before .before .before .before .pair .ensures .0, c .before .before .power .ensures) at (sym (c .before .entries-fit .ensures) ∙ c .if3 .left) in sym (fault-body _ _ _ _ _ _ (c .before .before .before .before .before .before .before .before .kind-due .ensures) (c .before .before .before .before .before .before .before .size-due .ensures) (sym (c .before .before .before .before .before .before .framed .ensures) ∙ c .before .before .before .before .before .if1 .left) ∙ body-2 _ _ _ _ _ (c .before .before .before .if2 .taken) ∙ simp t)
+returns-3 c = sym (fault-table _ _ _ _ _ _ (c .before .before .before .before .before .before .before .before .kind-due .ensures) (c .before .before .before .before .before .before .before .size-due .ensures) (sym (c .before .before .before .before .before .before .framed .ensures) ∙ c .before .before .before .before .before .if1 .left) (c .before .before .before .before .pair .ensures .0) (c .before .before .before .if2 .taken) (c .before .before .power .ensures) (c .before .entries-fit .ensures) (c .if3 .left))
 
 add-terms-fit : tie.Need-add-terms-fit
 add-terms-fit c = search needs
@@ -53,10 +54,10 @@ terms-fit-requires : tie.Need-terms-fit-requires
 terms-fit-requires c κs = let w = framed _ _ _ _ (sym (c .before .before .before .before .before .before .framed .ensures) ∙ c .before .before .before .before .before .if1 .left) in omega arith
 
 returns-4 : tie.Need-returns-4
-returns-4 c = let t = rw (c .before .before .before .before .before .before .pair .ensures .0, c .before .before .power2 .ensures) at (sym (c .before .terms-fit .ensures) ∙ c .if5 .taken) in sym (fault-body _ _ _ _ _ _ (c .before .before .before .before .before .before .before .before .before .before .kind-due .ensures) (c .before .before .before .before .before .before .before .before .before .size-due .ensures) (sym (c .before .before .before .before .before .before .before .before .framed .ensures) ∙ c .before .before .before .before .before .before .before .if1 .left) ∙ body-3 _ _ _ _ _ (c .before .before .before .before .if4 .taken) ∙ simp t)
+returns-4 c = sym (fault-list _ _ _ _ _ _ (c .before .before .before .before .before .before .before .before .before .before .kind-due .ensures) (c .before .before .before .before .before .before .before .before .before .size-due .ensures) (sym (c .before .before .before .before .before .before .before .before .framed .ensures) ∙ c .before .before .before .before .before .before .before .if1 .left) (c .before .before .before .before .before .before .pair .ensures .0) (c .before .before .before .before .if4 .taken) (c .before .before .power2 .ensures) (c .before .terms-fit .ensures) (c .if5 .taken))
 
 returns-5 : tie.Need-returns-5
-returns-5 c = let t = rw (c .before .before .before .before .before .before .pair .ensures .0, c .before .before .power2 .ensures) at (sym (c .before .terms-fit .ensures) ∙ c .if5 .left) in sym (fault-body _ _ _ _ _ _ (c .before .before .before .before .before .before .before .before .before .before .kind-due .ensures) (c .before .before .before .before .before .before .before .before .before .size-due .ensures) (sym (c .before .before .before .before .before .before .before .before .framed .ensures) ∙ c .before .before .before .before .before .before .before .if1 .left) ∙ body-3 _ _ _ _ _ (c .before .before .before .before .if4 .taken) ∙ simp t)
+returns-5 c = sym (fault-list _ _ _ _ _ _ (c .before .before .before .before .before .before .before .before .before .before .kind-due .ensures) (c .before .before .before .before .before .before .before .before .before .size-due .ensures) (sym (c .before .before .before .before .before .before .before .before .framed .ensures) ∙ c .before .before .before .before .before .before .before .if1 .left) (c .before .before .before .before .before .before .pair .ensures .0) (c .before .before .before .before .if4 .taken) (c .before .before .power2 .ensures) (c .before .terms-fit .ensures) (c .if5 .left))
 
 returns-6 : tie.Need-returns-6
 returns-6 c = sym (fault-body _ _ _ _ _ _ (c .before .before .before .before .before .before .kind-due .ensures) (c .before .before .before .before .before .size-due .ensures) (sym (c .before .before .before .before .framed .ensures) ∙ c .before .before .before .if1 .left) ∙ body-4 _ _ _ _ _ (λ e. kind-later _ _ (c .before .before .before .before .before .before .before .before .pre .1) (sym (c .before .before .before .before .before .before .kind-due .ensures) ∙ e)) (c .before .if2 .left) (c .if4 .left))

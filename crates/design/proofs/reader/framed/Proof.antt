@@ -1,5 +1,6 @@
-use borrow.Author.Tests.{ltb-true, ltb-false, leb-true, leb-false, eqb-true, eqb-false, lt-ltb, le-ltb, le-leb, lt-leb, eq-eqb, ne-eqb}
-use mathlib.Core.Path.{_≡_, refl, sym, ap, _∙_}
+-- `design::framed` meets its contract: each test is one of the definition's, in its order.
+use borrow.Author.Tests.{lt-ltb, le-ltb, eq-eqb, ne-eqb}
+use mathlib.Core.Path.{sym, _∙_}
 use Rattle.design.specs.Reading.{frame}
 use borrow.Author.Needs.{needs}
 use Rattle.design.proofs.reader.framed.Statement.{statement}

@@ -1,6 +1,7 @@
+-- `design::kind_due` meets its contract: each test is one of the definition's, in its order.
 use native.Mathlib.Omega.{arith}
-use mathlib.Core.Path.{_≡_, refl, sym, ap, _∙_}
-use borrow.Author.Tests.{ltb-true, ltb-false, leb-true, leb-false, eqb-true, eqb-false, lt-ltb, le-ltb, le-leb, lt-leb, eq-eqb, ne-eqb}
+use mathlib.Core.Path.{sym, _∙_}
+use borrow.Author.Tests.{eq-eqb, ne-eqb}
 use Rattle.design.proofs.Limits.{bounds}
 use Rattle.design.specs.Reading.{kindDue}
 use borrow.Author.Needs.{needs}

@@ -1,3 +1,4 @@
+-- `design::last` meets its contract: the limits bound the number of records.
 use native.Mathlib.Omega.{arith}
 use Rattle.design.specs.Reading.{lastOf}
 use Rattle.design.proofs.Limits.{bounds, records}

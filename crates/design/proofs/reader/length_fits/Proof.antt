@@ -1,4 +1,5 @@
-use borrow.Author.Tests.{ltb-true, ltb-false, leb-true, leb-false, eqb-true, eqb-false, lt-ltb, le-ltb, le-leb, lt-leb, eq-eqb, ne-eqb}
+-- `design::length_fits` meets its contract.
+use borrow.Author.Tests.{eq-eqb, ne-eqb}
 use Rattle.design.specs.Reading.{lengthDue}
 use Rattle.design.proofs.reader.length_fits.Statement.{statement}
 use Rattle.design.proofs.reader.length_fits.Tie as tie

@@ -1,8 +1,7 @@
-use Rattle.design.proofs.Walking.{good-head, beyond-head}
+-- `design::read` meets its contract: the head record here, the others by `walk`.
+use Rattle.design.proofs.Walking.{good-head, beyond-head, answers-refused, head-cut, head-size}
 use native.Mathlib.Omega.{arith}
-use mathlib.Core.Path.{_≡_, refl, sym, ap, _∙_}
-use Prim.Native.Nat.{ℕ, _≤_, _<_, _+_, _*_, _-_}
-use Rattle.design.proofs.Walking.{answers-refused, head-cut, head-size, head-beyond, head-good}
+use mathlib.Core.Path.{sym, _∙_}
 use denote.Ref.{now}
 use borrow.Author.Needs.{needs}
 use Rattle.design.proofs.reader.read.Statement.{statement}

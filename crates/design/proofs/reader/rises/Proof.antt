@@ -1,6 +1,6 @@
 -- `design::rises` meets its contract.
 use borrow.Author.Tests.{eq-eqb, ne-eqb}
-use mathlib.Core.Path.{_≡_, refl, sym, ap, _∙_}
+use mathlib.Core.Path.{_∙_}
 use borrow.Author.Needs.{needs}
 use Rattle.design.proofs.reader.rises.Statement.{statement}
 use Rattle.design.proofs.reader.rises.Tie as tie

@@ -1,6 +1,6 @@
+-- `design::size_due` meets its contract.
 use native.Mathlib.Omega.{arith}
-use mathlib.Core.Path.{_≡_, refl, sym, ap, _∙_}
-use borrow.Author.Tests.{ltb-true, ltb-false, leb-true, leb-false, eqb-true, eqb-false, lt-ltb, le-ltb, le-leb, lt-leb, eq-eqb, ne-eqb}
+use borrow.Author.Tests.{eq-eqb, ne-eqb}
 use Rattle.design.proofs.Limits.{bounds}
 use Rattle.design.specs.Reading.{sizeDue}
 use Rattle.design.proofs.reader.size_due.Statement.{statement}

@@ -1,11 +1,11 @@
 -- `design::terms_fit` meets its contract. The invariant: the terms passed fit, and the latest of them is kept.
 use native.Mathlib.Omega.{arith}
-use mathlib.Core.Path.{_≡_, refl, sym, ap, _∙_}
-use Prim.Native.Nat.{ℕ, _+_, _*_, _-_, _≤_, _<_}
+use mathlib.Core.Path.{_≡_, refl, sym, _∙_}
+use Prim.Native.Nat.{_-_, _≤_}
 use denote.Ref.{now}
 use borrow.Author.Tests.{not-true, not-false}
 use borrow.Author.Needs.{needs}
-use mathlib.Core.Bool.{true, false}
+use mathlib.Core.Bool.{true}
 use Rattle.anf.specs.Tests.{all}
 use Rattle.anf.proofs.Testing.{all-fails, all-more}
 use Rattle.design.specs.Reading.{previous, termFits}

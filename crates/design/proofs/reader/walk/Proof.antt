@@ -1,10 +1,9 @@
-use Rattle.design.proofs.Walking.{walked-first, walked-more, walked-last}
+-- `design::walk` meets its contract. The invariant, `Walked`: the records passed have no fault, and the definition's walk goes on from here.
+use Rattle.design.proofs.Walking.{walked-first, walked-more, walked-last, Walked, fault-framed, walk-stop, walk-over, walk-done, answers-refused, answers-means}
 use native.Mathlib.Omega.{arith}
-use mathlib.Core.Path.{_≡_, refl, sym, ap, _∙_}
+use mathlib.Core.Path.{refl, sym, ap, _∙_}
 use borrow.Author.Needs.{needs}
-use Prim.Native.Nat.{ℕ, _≤_, _<_, _+_, _*_, _-_}
-use Rattle.design.proofs.Limits.{bounds}
-use Rattle.design.proofs.Walking.{Walked, fault-framed, walk-stop, walk-next, walk-over, walk-done, place-next, starts-more, answers-refused, answers-means, head-next}
+use Prim.Native.Nat.{ℕ, _+_, _-_}
 use denote.Ref.{now}
 use Rattle.design.proofs.reader.walk.Statement.{statement}
 use Rattle.design.proofs.reader.walk.Tie as tie

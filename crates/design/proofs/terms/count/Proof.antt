@@ -1,5 +1,5 @@
 -- `design::count` meets its contract: four bytes a term.
-use mathlib.Core.Path.{_≡_, refl, sym, ap, _∙_}
+use mathlib.Core.Path.{sym}
 use Rattle.design.proofs.TermBytes.{terms-length}
 use Rattle.design.proofs.terms.count.Statement.{statement}
 use Rattle.design.proofs.terms.count.Tie as tie

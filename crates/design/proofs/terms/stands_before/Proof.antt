@@ -1,6 +1,6 @@
 -- `design::stands_before` meets its contract.
 use Rattle.anf.specs.Terms.{before}
-use mathlib.Core.Path.{_≡_, refl, sym, ap, _∙_}
+use mathlib.Core.Path.{refl}
 use Rattle.design.proofs.terms.stands_before.Statement.{statement}
 use Rattle.design.proofs.terms.stands_before.Tie as tie
 

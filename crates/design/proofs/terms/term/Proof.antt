@@ -1,6 +1,6 @@
 -- `design::term` meets its contract: term j starts at byte 4 j.
 use native.Mathlib.Omega.{arith}
-use mathlib.Core.Path.{_≡_, refl, sym, ap, _∙_}
+use mathlib.Core.Path.{_∙_}
 use denote.Ref.{now}
 use Rattle.design.proofs.TermBytes.{terms-length, terms-at}
 use Rattle.design.proofs.terms.term.Statement.{statement}

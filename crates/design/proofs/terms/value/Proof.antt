@@ -1,7 +1,7 @@
 -- `design::value` meets its contract. The invariant: what is summed so far, with the value of the terms from `at` on, is the value of all.
 use native.Mathlib.Omega.{arith}
-use mathlib.Core.Path.{_≡_, refl, sym, ap, _∙_}
-use Prim.Native.Nat.{ℕ, _+_, _*_, _-_, _≤_, _<_}
+use mathlib.Core.Path.{refl, sym, _∙_}
+use Prim.Native.Nat.{_-_, _≤_}
 use mathlib.Core.Logic.{⊎-elim}
 use lib.ListN.{length}
 use lib.Bits.{xor-zero-r}

@@ -1,10 +1,8 @@
 -- `design::put_term` meets its contract: four stores that follow one another.
 use native.Mathlib.Omega.{arith}
-use mathlib.Core.Path.{_≡_, refl, sym, ap, _∙_}
 use lib.ListN.{length-set}
 use native.Mathlib.Numerals.{towards-suc}
 use Rattle.design.specs.Bytes.{four}
-use Rattle.design.specs.Encode.{recordHead}
 use Rattle.design.proofs.Overwriting.{overwrite-sets}
 use borrow.Author.Needs.{needs}
 use Rattle.design.proofs.writer.put_term.Statement.{statement}
