@@ -1,5 +1,6 @@
 -- Laws of writing over a part of a list: two runs that follow one another are one run, so that the leaves of writing join into records and a file.
-use Prim.Native.Nat.{ℕ, zero, suc, _+_, _≤_, _<_}
+-- And how long records and files are.
+use Prim.Native.Nat.{ℕ, zero, suc, _+_, _*_, _≤_, _<_}
 use mathlib.Core.Path.{_≡_, refl, sym, ap, _∙_}
 use mathlib.Core.List.{List, [], _∷_, _++_, map, append-assoc, append-nil}
 use native.Mathlib.Omega.{arith}
@@ -7,8 +8,12 @@ use native.Mathlib.Numerals.{add-one}
 use native.Mathlib.Nat.{zero-add}
 use lib.ListN.{length, getD, set, take, drop, length-append}
 use lib.Seq.{sets, sets-eq, paste, paste-zero, paste-suc, take-length, length-take-le, drop-drop, take-at, drop-at, take-append-seam, drop-append-seam, drop-append-add, length-paste}
-use Rattle.design.specs.Bytes.{overwrite}
-use Rattle.design.specs.Encode.{join, recordHead, aRecord}
+use Rattle.design.specs.Bytes.{termBytes, overwrite}
+use Rattle.anf.specs.Tests.{total}
+use Rattle.anf.proofs.Counting.{total-congr}
+use Rattle.design.specs.Design.{Stage, Design, noStage, stageOf}
+use Rattle.design.specs.Encode.{join, recordHead, aRecord, headBody, stageBytes, encode}
+use Rattle.design.proofs.TermBytes.{length-termBytes}
 
 -- straight-line stores of four bytes
 pub overwrite-sets : (b l : List ℕ) (at : ℕ) → at + length b ≤ length l → sets l at b ≡ overwrite l at b
@@ -86,3 +91,40 @@ join-more k xs n d h = rw add-one (go k xs n d h)
     go k [] n d h = absurd (omega arith)
     go k (x ∷ xs) zero d h = append-nil (k x)
     go k (x ∷ xs) (suc n) d h = ap (λ (l : List ℕ). k x ++ l) (go k xs n d (omega arith)) ∙ sym (append-assoc (k x) _ _)
+
+-- ---- how long a file is
+
+joined-length : {A : Type 0} (k : A → List ℕ) (xs : List A) (d : A) (n : ℕ) → n ≤ length xs → length (join (map k (take n xs))) ≡ total n (λ i. length (k (getD xs i d)))
+unfolding total join
+joined-length k xs d zero h = refl
+joined-length k xs d (suc n) h =
+    let e = joined-length k xs d n (omega arith) in
+    let s : join (map k (take (suc n) xs)) ≡ join (map k (take n xs)) ++ k (getD xs n d) = rw add-one at (join-more k xs n d (omega arith)) in
+    let a = length-append (join (map k (take n xs))) (k (getD xs n d)) in
+    ap length s ∙ a ∙ omega arith
+
+pub join-length : {A : Type 0} (k : A → List ℕ) (xs : List A) (d : A) → length (join (map k xs)) ≡ total (length xs) (λ i. length (k (getD xs i d)))
+join-length k xs d = rw (take-length xs) at (joined-length k xs d (length xs) (omega arith))
+
+-- a stage: its table, and four bytes a list and a term
+pub stage-length : (g : Stage) → length (stageBytes g) ≡ 4 + length (g .table) + total (length (g .lists)) (λ l. 4 + 4 * length (getD (g .lists) l []))
+unfolding stageBytes
+stage-length g =
+    let a = length-append (aRecord 2 (g .table)) (join (map (λ ts. aRecord 3 (termBytes ts)) (g .lists))) in
+    let b = record-length 2 (g .table) in
+    let c = join-length (λ ts. aRecord 3 (termBytes ts)) (g .lists) [] in
+    let e = total-congr (length (g .lists)) (λ l. length (aRecord 3 (termBytes (getD (g .lists) l [])))) (λ l. 4 + 4 * length (getD (g .lists) l [])) (λ l h. record-length 3 _ ∙ ap (λ (x : ℕ). 4 + x) (length-termBytes _)) in
+    omega arith
+
+-- a file: the head, the box, the stages, the end
+pub encode-length : (d : Design) → length (encode d) ≡ 7 + (4 + length (d .box)) + total (length (d .stages)) (λ t. length (stageBytes (stageOf d t))) + 4
+unfolding encode
+encode-length d =
+    let a = length-append (aRecord 1 (headBody d)) (aRecord 2 (d .box) ++ (join (map stageBytes (d .stages)) ++ aRecord 4 [])) in
+    let b = length-append (aRecord 2 (d .box)) (join (map stageBytes (d .stages)) ++ aRecord 4 []) in
+    let c = length-append (join (map stageBytes (d .stages))) (aRecord 4 []) in
+    let p = record-length 1 (headBody d) in
+    let q = record-length 2 (d .box) in
+    let r = record-length 4 [] in
+    let s = join-length stageBytes (d .stages) noStage in
+    omega arith

@@ -5,10 +5,9 @@ use mathlib.Core.Path.{_≡_, refl, sym, ap, _∙_}
 use mathlib.Core.List.{List, []}
 use mathlib.Core.Logic.{_↔_}
 use lib.Seq.{ext-getD}
-use Rattle.anf.specs.Terms.{valueAt}
 use Rattle.anf.proofs.Terms.{unique-terms}
 use Rattle.design.specs.Bytes.{Bytes}
-use Rattle.design.specs.Design.{Design, WellFormed, noStage, stageOf, listOf}
+use Rattle.design.specs.Design.{Design, WellFormed, SameMeaning, noStage, stageOf}
 use Rattle.design.specs.Encode.{encode}
 use Rattle.design.specs.Reading.{means, reading}
 use Rattle.design.proofs.Written.{read-means, read-flat}
@@ -30,21 +29,12 @@ encode-reads d w = rw (flat-encode d w) at (flat-reads d w)
 pub file-exactly : (f : List ℕ) (d : Design) → Bytes f → (reading f ≡ means d) ↔ (WellFormed d × (f ≡ encode d))
 file-exactly f d b = (λ e. (read-formed f d e, read-encodes f d b e), λ p. rw (p .1) (encode-reads d (p .0)))
 
--- equal m, s, k, tables and component functions: list l of stage t has equal values at every sharing
-pub record Alike (d e : Design) : Type 0 where
-  pub m : d .m ≡ e .m
-  pub s : d .s ≡ e .s
-  pub k : d .k ≡ e .k
-  pub box : d .box ≡ e .box
-  pub table : (t : ℕ) → t < d .k → stageOf d t .table ≡ stageOf e t .table
-  pub component : (t l : ℕ) → t < d .k → l < d .m * d .s → (x : ℕ) → x < 2 ^ (d .m * d .s) → valueAt (listOf d t l) x ≡ valueAt (listOf e t l) x
-
-module _ (d e : Design) (v : WellFormed d) (w : WellFormed e) (a : Alike d e) where
+module _ (d e : Design) (v : WellFormed d) (w : WellFormed e) (a : SameMeaning d e) where
   bits : d .m * d .s ≡ e .m * e .s
   bits = rw (a .m, a .s) refl
 
-  lists-alike : (t : ℕ) → t < d .k → stageOf d t .lists ≡ stageOf e t .lists
-  lists-alike t b =
+  same-lists : (t : ℕ) → t < d .k → stageOf d t .lists ≡ stageOf e t .lists
+  same-lists t b =
       let c : t < e .k = rw (a .k) at b in
       let p = v .stage t b .count in
       ext-getD [] _ _ (p ∙ bits ∙ sym (w .stage t c .count))
@@ -52,13 +42,13 @@ module _ (d e : Design) (v : WellFormed d) (w : WellFormed e) (a : Alike d e) wh
       let u : l < d .m * d .s = rw p at h in
       unique-terms (d .m * d .s) _ _ (v .stage t b .list l u .terms) (rw bits (w .stage t c .list l (rw bits at u) .terms)) (a .component t l b u))
 
-  pub alike : d ≡ e
-  alike =
+  pub same-design : d ≡ e
+  same-design =
       design-eq d e (a .m) (a .s) (a .k) (a .box)
       (ext-getD noStage _ _ (v .count ∙ a .k ∙ sym (w .count))
-      (λ t h. let b : t < d .k = rw (v .count) at h in stage-eq _ _ (a .table t b) (lists-alike t b)))
+      (λ t h. let b : t < d .k = rw (v .count) at h in stage-eq _ _ (a .table t b) (same-lists t b)))
 
 -- one meaning has one file
-pub one-meaning-one-file : (f g : List ℕ) (d e : Design) → Bytes f → Bytes g → reading f ≡ means d → reading g ≡ means e → Alike d e → f ≡ g
+pub one-meaning-one-file : (f g : List ℕ) (d e : Design) → Bytes f → Bytes g → reading f ≡ means d → reading g ≡ means e → SameMeaning d e → f ≡ g
 one-meaning-one-file f g d e b c p q a =
-    read-encodes f d b p ∙ ap encode (alike d e (read-formed f d p) (read-formed g e q) a) ∙ sym (read-encodes g e c q)
+    read-encodes f d b p ∙ ap encode (same-design d e (read-formed f d p) (read-formed g e q) a) ∙ sym (read-encodes g e c q)

@@ -4,7 +4,7 @@ use mathlib.Core.Path.{_≡_}
 use mathlib.Core.Bool.{false}
 use mathlib.Core.List.{List, []}
 use lib.ListN.{length, getD}
-use Rattle.anf.specs.Terms.{TermList}
+use Rattle.anf.specs.Terms.{TermList, valueAt}
 use Rattle.design.specs.Limits.{broken}
 
 -- A stage: its table G, and its m × s lists of terms, component 1 first and in each component bit 0 first.
@@ -58,3 +58,14 @@ pub record WellFormed (d : Design) : Type 0 where
   pub box : TableFits (d .m) (d .box)
   pub count : length (d .stages) ≡ d .k
   pub stage : (t : ℕ) → t < d .k → StageFits (d .m) (d .s) (stageOf d t)
+
+-- ---- one meaning
+
+-- equal m, s, k, tables and component functions: list l of stage t has equal values at every sharing
+pub record SameMeaning (d e : Design) : Type 0 where
+  pub m : d .m ≡ e .m
+  pub s : d .s ≡ e .s
+  pub k : d .k ≡ e .k
+  pub box : d .box ≡ e .box
+  pub table : (t : ℕ) → t < d .k → stageOf d t .table ≡ stageOf e t .table
+  pub component : (t l : ℕ) → t < d .k → l < d .m * d .s → (x : ℕ) → x < 2 ^ (d .m * d .s) → valueAt (listOf d t l) x ≡ valueAt (listOf e t l) x
