@@ -5,21 +5,14 @@
 //! FILES is the number of generated files, 200,000 unless said. The last lines count what was compared; the exit
 //! status is 1 at a difference (printed with the file and both answers), or where a reason never occurred.
 
-mod lent;
-mod make;
-mod random;
-
+use compare::hex;
+use compare::lent::{self, Lent};
+use compare::make::{self, D, SIZES};
+use compare::random::Random;
 use jestrunas::native;
-use lent::Lent;
-use make::{D, SIZES};
-use random::Random;
 use reference::{encode, Answer, Design, Shares};
 use std::fmt::Debug;
 use std::time::Instant;
-
-fn hex(bytes: &[u8]) -> String {
-    bytes.iter().map(|byte| format!("{byte:02x}")).collect::<Vec<_>>().join(" ")
-}
 
 /// Counts of the reasons that an operation answered.
 #[derive(Default)]
@@ -57,6 +50,7 @@ struct Comparison {
     files: usize,
     readable: usize,
     differences: usize,
+    assured: usize,
     sizes: [[usize; 4]; 15],
     reads: Counts,
     verdicts: Counts,
@@ -74,6 +68,7 @@ impl Comparison {
             files: 0,
             readable: 0,
             differences: 0,
+            assured: 0,
             sizes: [[0; 4]; 15],
             reads: Counts::default(),
             verdicts: Counts::default(),
@@ -141,7 +136,7 @@ impl Comparison {
 
         match &meaning {
             Err(_) => {
-                let length = self.random.below(20);
+                let length = if self.random.once_in(16) { 5_000 } else { self.random.below(20) };
                 self.judge(file, due, None, length);
                 if self.random.once_in(4) {
                     let shares = [0; 5].map(|_: u8| self.random.below(4) as u8);
@@ -166,6 +161,9 @@ impl Comparison {
                     let due = reference::verdict(design, fewer);
                     self.judge(file, due, Some(design), fewer);
                 }
+                if full[0] == 0 && m * s <= 9 && self.random.once_in(8) {
+                    self.assured(design, file);
+                }
                 for _ in 0..2 {
                     let mut shares = [0; 5];
                     for share in &mut shares[..s] {
@@ -176,9 +174,6 @@ impl Comparison {
                         shares[j] = self.random.pick(&[1, 1 << m, (1 << m) + 1, 128, 255]);
                     }
                     self.run(file, shares);
-                    if full[0] == 0 && self.runs_sum_wrong(design, file, shares) {
-                        self.differs("an accepted run sums to S", file, shares, "");
-                    }
                 }
             }
         }
@@ -188,11 +183,39 @@ impl Comparison {
         }
     }
 
-    /// Where a run answers 0, whether its output shares fail to sum to S of the sum of the given ones.
-    fn runs_sum_wrong(&mut self, design: &Design, file: &[u8], shares: Shares) -> bool {
-        let (reason, out) = reference::run(file, shares);
-        let sum = |shares: Shares| shares.iter().fold(0, |sum, share| sum ^ share);
-        reason == 0 && sum(out) != design.table[usize::from(sum(shares))]
+    /// What an accepted design assures, by running it on every sharing of every secret: the last stage's output shares,
+    /// which sum to S of the secret, and every component of every stage meets every setting of the other shares once.
+    fn assured(&mut self, design: &Design, file: &[u8]) {
+        let (m, s) = (design.m, design.s);
+        for x in 0..1 << m {
+            let mut meetings = vec![vec![vec![0u32; 1 << (m * (s - 1))]; s]; design.stages.len()];
+            for number in 0..1usize << (m * (s - 1)) {
+                let mut given = [0u8; 5];
+                given[s - 1] = x;
+                for j in 0..s - 1 {
+                    given[j] = (number >> (j * m)) as u8 & ((1 << m) - 1);
+                    given[s - 1] ^= given[j];
+                }
+                let mut shares = given;
+                for (stage, meetings) in design.stages.iter().zip(&mut meetings) {
+                    for (j, met) in meetings.iter_mut().enumerate() {
+                        let others = (0..s).filter(|&other| other != j);
+                        met[others.fold(0, |setting, other| setting << m | usize::from(shares[other]))] += 1;
+                    }
+                    shares = stage.output(&shares);
+                }
+                let run = native::run(self.file.slice(), given);
+                let sum = shares.iter().fold(0, |sum, share| sum ^ share);
+                if (run.reason, run.shares.share) != (0, shares) || sum != design.table[usize::from(x)] {
+                    self.differs(&format!("an accepted design run on {given:?}"), file, run, shares);
+                }
+                self.runs.add(0);
+            }
+            if meetings.iter().flatten().flatten().any(|&times| times != 1) {
+                self.differs(&format!("an accepted design's meetings for the secret {x}"), file, meetings, "1 each");
+            }
+        }
+        self.assured += 1;
     }
 
     fn compare_produce(&mut self, m: usize, s: usize, table: &[u8], length: usize) -> Option<Vec<u8>> {
@@ -429,7 +452,7 @@ fn main() {
 
     let mut complete = true;
     for (i, (m, s)) in SIZES.iter().enumerate() {
-        if c.sizes[i][0] == 0 || (m * s <= 16 && c.sizes[i].contains(&0)) {
+        if c.sizes[i].contains(&0) && (m * s <= 16 || files >= 200_000) {
             println!("too few designs of m {m}, s {s}: {:?} by k", c.sizes[i]);
             complete = false;
         }
@@ -440,6 +463,7 @@ fn main() {
     complete &= c.runs.say("run", &[0, 1, 2, 3, 4, 5, 6, 7, 15]);
     complete &= c.produced.say("produce", &[0, 3, 4, 5, 8, 16, 17]);
     complete &= c.passages.say("passages", &[0, 3, 4, 5, 17]);
+    println!("assurance: {} accepted designs run on every sharing of every secret", c.assured);
     println!(
         "seed {seed}: {} files ({} readable), {} differences, {:.1} s",
         c.files,
