@@ -2,4 +2,5 @@
 pub mod Sharing
 pub mod Stages
 pub mod Chain
+pub mod Records
 pub mod Running
