@@ -14,6 +14,9 @@ use lib.Dec.{eqb, ltb}
 use lib.ListN.{length, getD, set, drop}
 use lib.Seq.{ext-getD}
 use borrow.Author.Tests.{eqb-true, ltb-true, lt-ltb, le-ltb}
+use lib.Bits.{bitXor, xor-zero-r}
+use Rattle.anf.specs.Sums.{xorBelow}
+use Rattle.anf.proofs.Sums.{xorBelow-none, xorBelow-add, xorBelow-ext}
 use Rattle.anf.specs.Tests.{pick, total, tabulate}
 use Rattle.anf.proofs.Testing.{below, all-at, all-intro, pick-true, pick-false, tabulate-at, tabulate-length, tabulate-more}
 use Rattle.design.specs.Design.{Stage, Design, noStage}
@@ -21,11 +24,11 @@ use Rattle.design.specs.Reading.{Reading, refused, means, reading, meaning}
 use Rattle.design.specs.Layout.{Describes}
 use Rattle.design.specs.declared.Layout.{Layout}
 use Rattle.design.proofs.Answered.{described}
-use Rattle.threshold.specs.Sharing.{share}
+use Rattle.threshold.specs.Sharing.{share, sum}
 use Rattle.threshold.specs.Stages.{output, component}
 use Rattle.threshold.specs.Chain.{handed}
 use Rattle.threshold.specs.Running.{packed, unpacked, shareFits, sharesFit, refusal, success, runningOn, running}
-use Rattle.threshold.proofs.Sharing.{share-lt, pow-step, pow-zeroth, shares-eq}
+use Rattle.threshold.proofs.Sharing.{share-lt, sum-shares, pow-step, pow-zeroth, shares-eq}
 use Rattle.threshold.proofs.Stages.{stage-output-lt}
 
 abbrev pub zeros : List ℕ
@@ -148,6 +151,19 @@ unpacked-packed w s l hs n e =
     go j k (no h) =
         let g : s ≤ j = omega arith in
         unpacked-unused w s (packed w s l) j g k ∙ sym (fit-unused w s j (getD l j 0) (fit-at w s l e j k) g)
+
+-- the sum of the five bytes is the value that is shared
+pub unpacked-sum : (w s σ : ℕ) → s ≤ 5 → xorBelow 5 (λ j. getD (unpacked w s σ) j 0) ≡ sum w s σ
+unpacked-sum w s σ hs =
+    let f : ℕ → ℕ = λ j. getD (unpacked w s σ) j 0 in
+    let e : s + (5 - s) ≡ 5 = omega arith in
+    let rest = xorBelow-none (5 - s) (λ i. f (s + i)) (λ i l. unpacked-unused w s σ (s + i) (omega arith) (omega arith)) in
+    ap (λ (k : ℕ). xorBelow k f) (sym e) ∙ xorBelow-add s (5 - s) f ∙ ap (bitXor (xorBelow s f)) rest ∙ xor-zero-r (xorBelow s f)
+    ∙ xorBelow-ext s f (λ j. share w j σ) (λ j l. unpacked-used w s σ j hs l) ∙ sym (sum-shares w s σ)
+
+pub packed-sum : (w s : ℕ) (l : List ℕ) → s ≤ 5 → length l ≡ 5 → sharesFit w s l ≡ true → sum w s (packed w s l) ≡ xorBelow 5 (λ j. getD l j 0)
+packed-sum w s l hs n e =
+    sym (unpacked-sum w s (packed w s l) hs) ∙ ap (λ (b : List ℕ). xorBelow 5 (λ j. getD b j 0)) (unpacked-packed w s l hs n e)
 
 -- filled a place at a time, over zeros
 pub unpacked-filled : (w s σ : ℕ) → s ≤ 5 → tabulate s (λ j. share w j σ) ++ drop s zeros ≡ unpacked w s σ
