@@ -1,2 +1,3 @@
 -- The verdict.
 pub mod Verdict
+pub mod Marks

@@ -1,0 +1,2 @@
+-- Laws of the verdict.
+pub mod Marks

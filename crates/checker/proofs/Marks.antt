@@ -1,0 +1,174 @@
+-- Marks: marking y marks y and nothing else. A run of marks meets one twice exactly when two outputs are equal; and that is what `repeatsBy` says.
+-- Assumes nothing.
+use mathlib.Core.Path.{_≡_, refl, sym, ap, ap₂, _∙_, subst}
+use mathlib.Core.List.{List, _++_}
+use mathlib.Core.Bool.{Bool, true, false, _||_}
+use mathlib.Core.Logic.{⊎-elim, _≢_}
+use Prim.Native.Nat.{ℕ, zero, suc, _+_, _-_, _*_, _/_, _%_, _^_, _<_, _≤_}
+use native.Mathlib.Nat.{div-self, zero-div, div-eq-of-lt, mul-mod-left, pow-suc, mod-lt, zero-lt-suc, lt-irrefl}
+use native.Mathlib.Decide.{ℕ-discrete, decLt}
+use native.Mathlib.Omega.{arith}
+use lib.Dec.{eqb}
+use lib.ListN.{length, getD, set, drop, replicate, length-set, List·getD-append, getD-replicate, length-replicate}
+use lib.Seq.{getD-set-same, getD-set-other, drop-set-lt, drop-at}
+use lib.Bits.{bitOr, or-shr, or-mod, or-zero-r}
+use lib.Pow.{pow-pos, pow-lt, pow-add, shl-shr}
+use borrow.Author.Tests.{eq-eqb, ne-eqb, eqb-true}
+use Rattle.anf.specs.Tests.{any}
+use Rattle.anf.proofs.Testing.{or-right, any-at, any-some, any-step, none-any, not-true-false, clash}
+use Rattle.anf.proofs.Counting.{Injective}
+use Rattle.checker.specs.Marks.{marked, mark, Clear, repeatsBy}
+
+or-false-right : (a b : Bool) → b ≡ false → (a || b) ≡ a
+or-false-right true b e = refl
+or-false-right false b e = e
+
+-- ---- bits of a byte
+
+bit-or : (a b k : ℕ) → bitOr a b / 2 ^ k % 2 ≡ bitOr (a / 2 ^ k % 2) (b / 2 ^ k % 2)
+bit-or a b k = ap (λ (x : ℕ). x % 2) (or-shr a b k) ∙ or-mod (a / 2 ^ k) (b / 2 ^ k) 1
+
+bit-pow-same : (k : ℕ) → 2 ^ k / 2 ^ k % 2 ≡ 1
+bit-pow-same k = ap (λ (x : ℕ). x % 2) (div-self (pow-pos k))
+
+bit-pow-low : (k r : ℕ) → k < r → 2 ^ r / 2 ^ k % 2 ≡ 0
+bit-pow-low k r h =
+    let d = r - suc k in
+    let e : r ≡ suc d + k = omega arith in
+    ap (λ (x : ℕ). 2 ^ x / 2 ^ k % 2) e
+    ∙ ap (λ (x : ℕ). x / 2 ^ k % 2) (pow-add 2 (suc d) k)
+    ∙ ap (λ (x : ℕ). x % 2) (shl-shr (2 ^ suc d) k)
+    ∙ ap (λ (x : ℕ). x % 2) (pow-suc 2 d)
+    ∙ mul-mod-left (2 ^ d) 2
+
+bit-pow-high : (k r : ℕ) → r < k → 2 ^ r / 2 ^ k % 2 ≡ 0
+bit-pow-high k r h = ap (λ (x : ℕ). x % 2) (div-eq-of-lt (pow-lt h))
+
+bit-pow-other : (k r : ℕ) → k ≢ r → 2 ^ r / 2 ^ k % 2 ≡ 0
+bit-pow-other k r ne = go (decLt k r)
+  where
+    go : Dec (k < r) → 2 ^ r / 2 ^ k % 2 ≡ 0
+    go (yes h) = bit-pow-low k r h
+    go (no f) = bit-pow-high k r (omega arith)
+
+or-one : (d : ℕ) → d < 2 → bitOr d 1 ≡ 1
+or-one zero h = refl
+or-one (suc zero) h = refl
+or-one (suc (suc d)) h = absurd (omega arith)
+
+-- the byte of y after marking y, at bit k
+byte-same : (b k : ℕ) → bitOr b (2 ^ k) / 2 ^ k % 2 ≡ 1
+byte-same b k = bit-or b (2 ^ k) k ∙ ap (bitOr (b / 2 ^ k % 2)) (bit-pow-same k) ∙ or-one (b / 2 ^ k % 2) (mod-lt _ (zero-lt-suc 1))
+
+byte-other : (b k r : ℕ) → k ≢ r → bitOr b (2 ^ r) / 2 ^ k % 2 ≡ b / 2 ^ k % 2
+byte-other b k r ne = bit-or b (2 ^ r) k ∙ ap (bitOr (b / 2 ^ k % 2)) (bit-pow-other k r ne) ∙ or-zero-r _
+
+-- marking y marks y and nothing else
+mark-same : (l : List ℕ) (y : ℕ) → y / 8 < length l → marked (mark l y) y ≡ true
+unfolding marked mark
+mark-same l y h = ap (λ (b : ℕ). eqb (b / 2 ^ (y % 8) % 2) 1) (getD-set-same l (y / 8) _ 0 h) ∙ ap (λ (d : ℕ). eqb d 1) (byte-same (getD l (y / 8) 0) (y % 8))
+
+mark-other : (l : List ℕ) (y z : ℕ) → y / 8 < length l → y ≢ z → marked (mark l y) z ≡ marked l z
+unfolding marked mark
+mark-other l y z h f = go (ℕ-discrete (z / 8) (y / 8))
+  where
+    v : ℕ
+    v = bitOr (getD l (y / 8) 0) (2 ^ (y % 8))
+
+    go : Dec (z / 8 ≡ y / 8) → eqb (getD (set l (y / 8) v) (z / 8) 0 / 2 ^ (z % 8) % 2) 1 ≡ eqb (getD l (z / 8) 0 / 2 ^ (z % 8) % 2) 1
+    go (yes e) =
+        rw e
+        (ap (λ (b : ℕ). eqb (b / 2 ^ (z % 8) % 2) 1) (getD-set-same l (y / 8) v 0 h)
+        ∙ ap (λ (d : ℕ). eqb d 1) (byte-other (getD l (y / 8) 0) (z % 8) (y % 8) (λ q. f (omega arith))))
+    go (no g) = ap (λ (b : ℕ). eqb (b / 2 ^ (z % 8) % 2) 1) (getD-set-other l (y / 8) (z / 8) v 0 g)
+
+pub mark-marks : (l : List ℕ) (y z : ℕ) → y / 8 < length l → marked (mark l y) z ≡ (marked l z || eqb y z)
+mark-marks l y z h = go (ℕ-discrete y z)
+  where
+    go : Dec (y ≡ z) → marked (mark l y) z ≡ (marked l z || eqb y z)
+    go (yes e) = subst (λ (z : ℕ). marked (mark l y) z ≡ (marked l z || eqb y z)) e (mark-same l y h ∙ sym (or-right (marked l y) (eqb y y) (eq-eqb y y refl)))
+    go (no f) = mark-other l y z h f ∙ sym (or-false-right (marked l z) (eqb y z) (ne-eqb y z f))
+
+pub mark-length : (l : List ℕ) (y : ℕ) → length (mark l y) ≡ length l
+unfolding mark
+mark-length l y = simp length-set
+
+pub mark-drop : (l : List ℕ) (k y : ℕ) → y / 8 < k → drop k (mark l y) ≡ drop k l
+unfolding mark
+mark-drop l k y h = drop-set-lt k l (y / 8) _ h
+
+-- zero bytes have no mark
+pub clear-none : (n : ℕ) (l rest : List ℕ) → n % 8 ≡ 0 → l ≡ replicate (n / 8) 0 ++ rest → Clear n l
+unfolding marked
+clear-none n l rest whole q y h =
+    let k = n / 8 in
+    let e : y / 8 < k = omega arith in
+    rw (q, List·getD-append (replicate k 0) rest 0 (y / 8) (rw length-replicate e), getD-replicate {A = ℕ} k (y / 8) 0 0 e)
+    (ap (λ (x : ℕ). eqb (x % 2) 1) (zero-div (2 ^ (y % 8))))
+
+-- cleared, marked within the first k bytes, and cleared again
+pub cleared-again : (k : ℕ) (l₀ l₁ l₂ l₃ : List ℕ) → l₁ ≡ replicate k 0 ++ drop k l₀ → drop k l₂ ≡ drop k l₁ → l₃ ≡ replicate k 0 ++ drop k l₂
+    → l₃ ≡ replicate k 0 ++ drop k l₀
+cleared-again k l₀ l₁ l₂ l₃ a b c = rw (c, b, a, drop-at (replicate k 0) (drop k l₀) k (length-replicate {A = ℕ} k 0)) refl
+
+-- ---- what a run has found
+
+-- i outputs are marked, and none twice
+pub record Run (n : ℕ) (g : ℕ → ℕ) (l₀ l : List ℕ) (i : ℕ) : Type 0 where
+  pub most : i ≤ n
+  pub long : length l ≡ length l₀
+  pub rest : drop (n / 8) l ≡ drop (n / 8) l₀
+  pub once : repeatsBy i g ≡ false
+  pub met : (y : ℕ) → y < n → marked l y ≡ any i (λ j. eqb (g j) y)
+
+pub run-start : (n : ℕ) (g : ℕ → ℕ) (l : List ℕ) → Clear n l → Run n g l l 0
+unfolding repeatsBy any
+run-start n g l k = record { most = omega arith; long = refl; rest = refl; once = refl; met = k }
+
+module _ (n : ℕ) (g : ℕ → ℕ) (l₀ l : List ℕ) (i : ℕ) (whole : n % 8 ≡ 0) (room : n / 8 ≤ length l₀) (r : Run n g l₀ l i) (more : i < n) (below : g i < n) where
+  -- a mark that is met is an earlier output
+  pub run-found : marked l (g i) ≡ true → repeatsBy n g ≡ true
+  unfolding repeatsBy
+  run-found h = any-at n _ i more (sym (r .met (g i) below) ∙ h)
+
+  pub run-rest : drop (n / 8) (mark l (g i)) ≡ drop (n / 8) l₀
+  run-rest = mark-drop l (n / 8) (g i) (omega arith) ∙ r .rest
+
+  pub run-step : marked l (g i) ≡ false → Run n g l₀ (mark l (g i)) (i + 1)
+  unfolding repeatsBy
+  run-step h =
+      let h₀ = r .long in
+      record {
+        most = omega arith;
+        long = mark-length l (g i) ∙ r .long;
+        rest = run-rest;
+        once = rw (any-step, r .once, ← (r .met (g i) below)) h;
+        met = λ y b. mark-marks l (g i) y (omega arith) ∙ ap (λ (a : Bool). a || eqb (g i) y) (r .met y b) ∙ sym (any-step i (λ j. eqb (g j) y));
+      }
+
+-- ---- what `repeatsBy` says
+
+-- where some two are equal, g is not injective
+pub repeats-clash : (n : ℕ) (g : ℕ → ℕ) → repeatsBy n g ≡ true → Injective n g → ⊥
+unfolding repeatsBy
+repeats-clash n g h inj =
+    let a = any-some n (λ i. any i (λ j. eqb (g j) (g i))) h in
+    let b = any-some (a .0) (λ j. eqb (g j) (g (a .0))) (a .2) in
+    let e = inj (b .0) (a .0) (omega (arith, a .1, b .1)) (a .1) (eqb-true _ _ (b .2)) in
+    omega (arith, b .1, e)
+
+equal-repeats : (n : ℕ) (g : ℕ → ℕ) (i j : ℕ) → i < n → j < i → g j ≡ g i → repeatsBy n g ≡ true
+unfolding repeatsBy
+equal-repeats n g i j h l e = any-at n _ i h (any-at i (λ k. eqb (g k) (g i)) j l (eq-eqb _ _ e))
+
+-- where none are, it is
+pub none-injective : (n : ℕ) (g : ℕ → ℕ) → repeatsBy n g ≡ false → Injective n g
+none-injective n g h i j li lj e = go (decLt i j) (decLt j i)
+  where
+    go : Dec (i < j) → Dec (j < i) → i ≡ j
+    go (yes l) q = absurd (clash (equal-repeats n g j i lj l e) h)
+    go (no p) (yes l) = absurd (clash (equal-repeats n g i j li l (sym e)) h)
+    go (no p) (no q) = omega arith
+
+pub injective-none : (n : ℕ) (g : ℕ → ℕ) → Injective n g → repeatsBy n g ≡ false
+injective-none n g inj = not-true-false (repeatsBy n g) (λ h. repeats-clash n g h inj)

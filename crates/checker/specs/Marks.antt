@@ -1,0 +1,25 @@
+-- Marks, by which the checker finds uniformity: one bit for each sharing, eight to a byte, lowest first.
+use Prim.Native.Nat.{ℕ, _/_, _%_, _^_, _<_}
+use mathlib.Core.Path.{_≡_}
+use mathlib.Core.List.{List}
+use mathlib.Core.Bool.{Bool, false}
+use lib.ListN.{getD, set}
+use lib.Dec.{eqb}
+use lib.Bits.{bitOr}
+use Rattle.anf.specs.Tests.{any}
+
+-- y is marked
+unfoldable pub marked : List ℕ → ℕ → Bool
+marked l y = eqb (getD l (y / 8) 0 / 2 ^ (y % 8) % 2) 1
+
+-- the marks with y marked too
+unfoldable pub mark : List ℕ → ℕ → List ℕ
+mark l y = set l (y / 8) (bitOr (getD l (y / 8) 0) (2 ^ (y % 8)))
+
+-- no number below n is marked
+abbrev pub Clear : ℕ → List ℕ → Type 0
+Clear n l = (y : ℕ) → y < n → marked l y ≡ false
+
+-- some two of g 0, g 1, .. g (n - 1) are equal
+unfoldable pub repeatsBy : ℕ → (ℕ → ℕ) → Bool
+repeatsBy n g = any n (λ i. any i (λ j. eqb (g j) (g i)))
