@@ -1,3 +1,4 @@
 -- The verdict.
 pub mod Verdict
 pub mod Marks
+pub mod Accepted
