@@ -1,2 +1,5 @@
 -- Laws of the verdict.
 pub mod Marks
+pub mod Steps
+pub mod Tables
+pub mod Exactly
