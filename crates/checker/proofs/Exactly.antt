@@ -24,6 +24,7 @@ use Rattle.checker.specs.Verdict.{answer, workspaceFor, chainIsBox, firs
 use Rattle.checker.specs.Accepted.{Permutation, ChainIsBox, TablePermutes, CorrectAt, IgnoresOwn, NonCompleteAt, UniformAt, Sound, Accepted, Ready, Passed, Explained, refusal, fault-8, fault-9, fault-10, fault-11, fault-12, fault-13, fault-14, accepted}
 use Rattle.checker.specs.declared.Verdict.{Verdict}
 use Rattle.checker.proofs.Steps.{readsOwnAt, stageAnswer, stagesFrom, stages-next, stages-end, stages-all}
+use Rattle.checker.proofs.Read.{reads-formed, refuses-one}
 use Rattle.checker.proofs.Tables.{repeats-permutation, permutation-repeats, repeats-none, chain-tables}
 
 -- a verdict by a test is explained where both its sides are
@@ -107,72 +108,71 @@ module _ (f : List ℕ) (n : ℕ) (d : Design) (wf : WellFormed d) where
       (record { ready = ready; chain = chain; tables = none-permutes d (d .k) (none-repeats d (ltb-false _ _ r)); before = λ i k. absurd (not-suc-le-zero k) })))
       (λ c. fault-10 d ready (λ h. clash (chain↔ d .1 h) c))))
 
-module _ (reads-well : (f : List ℕ) (d : Design) → reading f ≡ means d → WellFormed d) (refuses : (f : List ℕ) (r p : ℕ) → reading f ≡ refused r p → 1 ≤ r) where
-  -- of every file and every workspace
-  pub explained : (f : List ℕ) (n : ℕ) → Explained f n (verdict f n)
-  unfolding verdict judgedReading
-  explained f n = go (reading f) refl
-    where
-      go : (r : Reading) → reading f ≡ r → Explained f n (judgedReading r n)
-      go (refused r p) e = refusal r p e
-      go (means d) e = judged-explained f n d (reads-well f d e) e
+-- of every file and every workspace
+pub explained : (f : List ℕ) (n : ℕ) → Explained f n (verdict f n)
+unfolding verdict judgedReading
+explained f n = go (reading f) refl
+  where
+    go : (r : Reading) → reading f ≡ r → Explained f n (judgedReading r n)
+    go (refused r p) e = refusal r p e
+    go (means d) e = judged-explained f n d (reads-formed f d e) e
 
-  passed-accepted : (f : List ℕ) (n : ℕ) (d : Design) → Passed f n d (d .k) → Accepted f n d
-  passed-accepted f n d p = record { reads = p .ready .reads; box = p .ready .box; room = p .ready .room; chain = p .chain; stages = p .before }
+passed-accepted : (f : List ℕ) (n : ℕ) (d : Design) → Passed f n d (d .k) → Accepted f n d
+passed-accepted f n d p = record { reads = p .ready .reads; box = p .ready .box; room = p .ready .room; chain = p .chain; stages = p .before }
 
-  accepts : (f : List ℕ) (n : ℕ) (v : Verdict) → Explained f n v → v .reason ≡ 0 → (d : Design) × (v ≡ answer 0 (d .k) 0) × Accepted f n d
-  accepts f n v (refusal r p e) z = absurd (omega (arith, refuses f r p e))
-  accepts f n v (fault-8 d e h) z = absurd (omega arith)
-  accepts f n v (fault-9 d e b h) z = absurd (omega arith)
-  accepts f n v (fault-10 d e h) z = absurd (omega arith)
-  accepts f n v (fault-11 d t e c l b h) z = absurd (omega arith)
-  accepts f n v (fault-12 d t p l h) z = absurd (omega arith)
-  accepts f n v (fault-13 d t j p l c k b h) z = absurd (omega arith)
-  accepts f n v (fault-14 d t p l c o h) z = absurd (omega arith)
-  accepts f n v (accepted d p) z = (d, refl, passed-accepted f n d p)
+accepts : (f : List ℕ) (n : ℕ) (v : Verdict) → Explained f n v → v .reason ≡ 0 → (d : Design) × (v ≡ answer 0 (d .k) 0) × Accepted f n d
+accepts f n v (refusal r p e) z = absurd (omega (arith, refuses-one f r p e))
+accepts f n v (fault-8 d e h) z = absurd (omega arith)
+accepts f n v (fault-9 d e b h) z = absurd (omega arith)
+accepts f n v (fault-10 d e h) z = absurd (omega arith)
+accepts f n v (fault-11 d t e c l b h) z = absurd (omega arith)
+accepts f n v (fault-12 d t p l h) z = absurd (omega arith)
+accepts f n v (fault-13 d t j p l c k b h) z = absurd (omega arith)
+accepts f n v (fault-14 d t p l c o h) z = absurd (omega arith)
+accepts f n v (accepted d p) z = (d, refl, passed-accepted f n d p)
 
-  -- where the file reads as d, there is no fault
-  module _ (f : List ℕ) (n : ℕ) (d : Design) (a : Accepted f n d) where
-    same : (e : Design) → reading f ≡ means e → d ≡ e
-    same e r = let q : means d ≡ means e = sym (a .reads) ∙ r in cc
+-- where the file reads as d, there is no fault
+module _ (f : List ℕ) (n : ℕ) (d : Design) (a : Accepted f n d) where
+  same : (e : Design) → reading f ≡ means e → d ≡ e
+  same e r = let q : means d ≡ means e = sym (a .reads) ∙ r in cc
 
-    -- the tables of the chain are permutations, as S is one
-    tables : (t : ℕ) → t < d .k → TablePermutes d t
-    tables t l =
-        let wf = reads-well f d (a .reads) in
-        chain-tables (2 ^ d .m) (d .stages) (λ i k. wf .stage i (omega (arith, wf .count)) .table .below)
-        (λ x y lx ly e. a .box x y lx ly (sym (a .chain x lx) ∙ e ∙ a .chain y ly)) t (omega (arith, wf .count))
+  -- the tables of the chain are permutations, as S is one
+  tables : (t : ℕ) → t < d .k → TablePermutes d t
+  tables t l =
+      let wf = reads-formed f d (a .reads) in
+      chain-tables (2 ^ d .m) (d .stages) (λ i k. wf .stage i (omega (arith, wf .count)) .table .below)
+      (λ x y lx ly e. a .box x y lx ly (sym (a .chain x lx) ∙ e ∙ a .chain y ly)) t (omega (arith, wf .count))
 
-    no-fault : (v : Verdict) → Explained f n v → v ≡ answer 0 (d .k) 0
-    no-fault v (refusal r p e) = let q : means d ≡ refused r p = sym (a .reads) ∙ e in let z : _≡_ {A = ℕ} 0 1 = cc in absurd (omega arith)
-    no-fault v (fault-8 e r h) = absurd (subst (λ (x : Design). ¬ Permutation (x .m) (x .box)) (sym (same e r)) h (a .box))
-    no-fault v (fault-9 e r b h) = absurd (omega (arith, a .room, subst (λ (x : Design). n < workspaceFor x) (sym (same e r)) h))
-    no-fault v (fault-10 e r h) = absurd (subst (λ (x : Design). ¬ ChainIsBox x) (sym (same e (r .reads))) h (a .chain))
-    no-fault v (fault-11 e t r c l b h) =
-        let q = sym (same e (r .reads)) in
-        absurd (subst (λ (x : Design). ¬ TablePermutes x t) q h (tables t (subst (λ (x : Design). t < x .k) q l)))
-    no-fault v (fault-12 e t p l h) =
-        let q = sym (same e (p .ready .reads)) in
-        absurd (subst (λ (x : Design). ¬ CorrectAt x t) q h (a .stages t (subst (λ (x : Design). t < x .k) q l) .correct))
-    no-fault v (fault-13 e t j p l c k b h) =
-        let q = sym (same e (p .ready .reads)) in
-        absurd
-        (subst (λ (x : Design). ¬ IgnoresOwn x t j) q h
-        (a .stages t (subst (λ (x : Design). t < x .k) q l) .nonComplete j (subst (λ (x : Design). j < x .s) q k)))
-    no-fault v (fault-14 e t p l c o h) =
-        let q = sym (same e (p .ready .reads)) in
-        absurd (subst (λ (x : Design). ¬ UniformAt x t) q h (a .stages t (subst (λ (x : Design). t < x .k) q l) .uniform))
-    no-fault v (accepted e p) = ap (λ (x : Design). answer 0 (x .k) 0) (sym (same e (p .ready .reads)))
+  no-fault : (v : Verdict) → Explained f n v → v ≡ answer 0 (d .k) 0
+  no-fault v (refusal r p e) = let q : means d ≡ refused r p = sym (a .reads) ∙ e in let z : _≡_ {A = ℕ} 0 1 = cc in absurd (omega arith)
+  no-fault v (fault-8 e r h) = absurd (subst (λ (x : Design). ¬ Permutation (x .m) (x .box)) (sym (same e r)) h (a .box))
+  no-fault v (fault-9 e r b h) = absurd (omega (arith, a .room, subst (λ (x : Design). n < workspaceFor x) (sym (same e r)) h))
+  no-fault v (fault-10 e r h) = absurd (subst (λ (x : Design). ¬ ChainIsBox x) (sym (same e (r .reads))) h (a .chain))
+  no-fault v (fault-11 e t r c l b h) =
+      let q = sym (same e (r .reads)) in
+      absurd (subst (λ (x : Design). ¬ TablePermutes x t) q h (tables t (subst (λ (x : Design). t < x .k) q l)))
+  no-fault v (fault-12 e t p l h) =
+      let q = sym (same e (p .ready .reads)) in
+      absurd (subst (λ (x : Design). ¬ CorrectAt x t) q h (a .stages t (subst (λ (x : Design). t < x .k) q l) .correct))
+  no-fault v (fault-13 e t j p l c k b h) =
+      let q = sym (same e (p .ready .reads)) in
+      absurd
+      (subst (λ (x : Design). ¬ IgnoresOwn x t j) q h
+      (a .stages t (subst (λ (x : Design). t < x .k) q l) .nonComplete j (subst (λ (x : Design). j < x .s) q k)))
+  no-fault v (fault-14 e t p l c o h) =
+      let q = sym (same e (p .ready .reads)) in
+      absurd (subst (λ (x : Design). ¬ UniformAt x t) q h (a .stages t (subst (λ (x : Design). t < x .k) q l) .uniform))
+  no-fault v (accepted e p) = ap (λ (x : Design). answer 0 (x .k) 0) (sym (same e (p .ready .reads)))
 
-  -- For every file and every workspace length: the reason is 0 exactly when the file reads, S is a permutation, the workspace is enough, the chain of
-  -- tables is S, and every stage is correct, non-complete and uniform.
-  pub accepted-exactly : (f : List ℕ) (n k : ℕ) → verdict f n ≡ answer 0 k 0 ↔ ((d : Design) × (d .k ≡ k) × Accepted f n d)
-  accepted-exactly f n k = (
-    λ e. let r = accepts f n (verdict f n) (explained f n) (ap (λ (v : Verdict). v .reason) e) in
-        (r .0, ap (λ (v : Verdict). v .place) (sym (r .1) ∙ e), r .2),
-    λ r. no-fault f n (r .0) (r .2) (verdict f n) (explained f n) ∙ ap (λ (x : ℕ). answer 0 x 0) (r .1),
-  )
+-- For every file and every workspace length: the reason is 0 exactly when the file reads, S is a permutation, the workspace is enough, the chain of
+-- tables is S, and every stage is correct, non-complete and uniform.
+pub accepted-exactly : (f : List ℕ) (n k : ℕ) → verdict f n ≡ answer 0 k 0 ↔ ((d : Design) × (d .k ≡ k) × Accepted f n d)
+accepted-exactly f n k = (
+  λ e. let r = accepts f n (verdict f n) (explained f n) (ap (λ (v : Verdict). v .reason) e) in
+      (r .0, ap (λ (v : Verdict). v .place) (sym (r .1) ∙ e), r .2),
+  λ r. no-fault f n (r .0) (r .2) (verdict f n) (explained f n) ∙ ap (λ (x : ℕ). answer 0 x 0) (r .1),
+)
 
-  -- reason 0 alone
-  pub reason-zero : (f : List ℕ) (n : ℕ) → verdict f n .reason ≡ 0 → (d : Design) × Accepted f n d
-  reason-zero f n e = let r = accepts f n (verdict f n) (explained f n) e in (r .0, r .2)
+-- reason 0 alone
+pub reason-zero : (f : List ℕ) (n : ℕ) → verdict f n .reason ≡ 0 → (d : Design) × Accepted f n d
+reason-zero f n e = let r = accepts f n (verdict f n) (explained f n) e in (r .0, r .2)

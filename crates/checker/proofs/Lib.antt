@@ -2,4 +2,5 @@
 pub mod Marks
 pub mod Steps
 pub mod Tables
+pub mod Read
 pub mod Exactly
