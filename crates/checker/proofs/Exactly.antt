@@ -25,7 +25,7 @@ use Rattle.checker.specs.Accepted.{Permutation, ChainIsBox, TablePermute
 use Rattle.checker.specs.declared.Verdict.{Verdict}
 use Rattle.checker.proofs.Steps.{readsOwnAt, stageAnswer, stagesFrom, stages-next, stages-end, stages-all}
 use Rattle.checker.proofs.Read.{reads-formed, refuses-one}
-use Rattle.checker.proofs.Tables.{repeats-permutation, permutation-repeats, repeats-none, chain-tables}
+use Rattle.checker.proofs.Permutations.{repeats-permutation, permutation-repeats, repeats-none, chain-tables}
 
 -- a verdict by a test is explained where both its sides are
 picked : (f : List ℕ) (n : ℕ) (b : Bool) (x y : Verdict) → (b ≡ true → Explained f n x) → (b ≡ false → Explained f n y) → Explained f n (pick b x y)

@@ -1,6 +1,9 @@
 -- Laws of the verdict.
-pub mod Marks
+pub mod Marking
 pub mod Steps
-pub mod Tables
+pub mod Permutations
+pub mod Repeating
+pub mod Composing
+pub mod Uniform
 pub mod Read
 pub mod Exactly

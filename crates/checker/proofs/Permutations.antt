@@ -15,7 +15,7 @@ use Rattle.design.specs.Design.{Stage, entry, noStage}
 use Rattle.threshold.specs.Chain.{chained}
 use Rattle.checker.specs.Marks.{repeatsBy}
 use Rattle.checker.specs.Accepted.{Permutation}
-use Rattle.checker.proofs.Marks.{repeats-clash, none-injective, injective-none}
+use Rattle.checker.proofs.Marking.{repeats-clash, none-injective, injective-none}
 
 repeats-by : (m : ℕ) (t : List ℕ) → repeats (2 ^ m) t ≡ repeatsBy (2 ^ m) (entry t)
 unfolding repeats repeatsBy

@@ -1,0 +1,94 @@
+// The tables: their chain, and the first that repeats an entry.
+use design::Layout;
+ghost use mathlib.Core.Path.{_≡_};
+ghost use Prim.Native.Nat.{ℕ, _^_, _≤_, _<_};
+ghost use lib.ListN.{length, getD};
+ghost use Rattle.design.specs.Reading.{meaning};
+ghost use Rattle.design.specs.Layout.{Describes};
+ghost use Rattle.threshold.specs.Chain.{chained};
+ghost use Rattle.checker.specs.Verdict.{chainIsBox, firstRepeating};
+
+fn wide(x: u8) -> usize
+    ensures { λ r. ⌜ r ≡ x ⌝ }
+{
+    x as usize
+}
+
+// The numbers 0 to 63, each at its own place.
+fn identity() -> [u8; 64]
+    ensures { λ r. ⌜ ((x : ℕ) → x < 64 → getD r x 0 ≡ x) ⌝ }
+{
+    let mut c = [0u8; 64];
+    let mut x: usize = 0;
+    while x < 64 {
+        c[x] = x as u8;
+        x += 1;
+    }
+    c
+}
+
+// The first `n` entries of `from`, each replaced by what the table makes of it.
+fn through(table: &[u8], n: usize, from: [u8; 64]) -> [u8; 64]
+    requires { ⌜ (n ≤ 64) × ((x : ℕ) → x < n → getD from x 0 < length (now table)) ⌝ }
+    ensures { λ r. ⌜ ((x : ℕ) → x < n → getD r x 0 ≡ getD (now (table .entry)) (getD from x 0) 0) ⌝ }
+{
+    let mut out = [0u8; 64];
+    let mut x: usize = 0;
+    while x < n {
+        let y = wide(from[x]);
+        out[x] = table[y];
+        x += 1;
+    }
+    out
+}
+
+// The table of the chain, in 64 bytes of its own: that of the first stage is applied first.
+fn composed(file: &[u8], layout: Layout) -> [u8; 64]
+    requires { ⌜ Describes (now file) layout ⌝ }
+    ensures { λ r. ⌜ ((x : ℕ) → x < 2 ^ layout .head .m → getD r x 0 ≡ chained (meaning (now (file .entry)) .stages) x) ⌝ }
+{
+    let n = anf::points(layout.head.m);
+    let k = layout.head.k;
+    let mut c = identity();
+    let mut t: usize = 0;
+    while t < k {
+        let table = design::table(file, layout, t);
+        let next = through(table, n, c);
+        c = next;
+        t += 1;
+    }
+    c
+}
+
+// Whether the chain of tables is S.
+pub fn chain_is_box(file: &[u8], layout: Layout) -> bool
+    requires { ⌜ Describes (now file) layout ⌝ }
+    ensures { λ r. ⌜ r ≡ chainIsBox (meaning (now (file .entry))) ⌝ }
+{
+    let c = composed(file, layout);
+    let s_box = design::box_table(file, layout);
+    let mut x: usize = 0;
+    while x < s_box.len() {
+        if c[x] != s_box[x] {
+            return false;
+        }
+        x += 1;
+    }
+    true
+}
+
+// The first stage whose table repeats an entry, counted from 0; their number where there is none.
+pub fn first_repeating(file: &[u8], layout: Layout) -> usize
+    requires { ⌜ Describes (now file) layout ⌝ }
+    ensures { λ r. ⌜ r ≡ firstRepeating (meaning (now (file .entry))) ⌝ }
+{
+    let k = layout.head.k;
+    let mut t: usize = 0;
+    while t < k {
+        if anf::repeats(design::table(file, layout, t)) {
+            return t;
+        }
+        t += 1;
+    }
+    t
+}
