@@ -20,11 +20,12 @@ use Rattle.design.specs.Reading.{Reading, refused, means, reading}
 use Rattle.threshold.specs.Stages.{correct, readsOwn, uniform}
 use Rattle.threshold.specs.Chain.{chained}
 use Rattle.threshold.proofs.Tests.{correct↔, ignores↔, uniform↔}
-use Rattle.checker.specs.Verdict.{answer, workspaceFor, chainIsBox, firstRepeating, judgeStages, judged, judgedReading, verdict}
+use Rattle.checker.specs.Verdict.{answer, workspaceFor, chainIsBox, firstRepeating, stageVerdict, judgeStages, judged, judgedReading, verdict}
 use Rattle.checker.specs.Accepted.{Permutation, ChainIsBox, TablePermutes, CorrectAt, IgnoresOwn, NonCompleteAt, UniformAt, Sound, Accepted, Ready, Passed, Explained, refusal, fault-8, fault-9, fault-10, fault-11, fault-12, fault-13, fault-14, accepted}
 use Rattle.checker.specs.declared.Verdict.{Verdict}
 use Rattle.checker.proofs.Steps.{readsOwnAt, stageAnswer, stagesFrom, stages-next, stages-end, stages-all}
 use Rattle.checker.proofs.Read.{reads-formed, refuses-one}
+use Rattle.checker.proofs.Repeating.{first-repeats, none-repeats, none-permutes}
 use Rattle.checker.proofs.Permutations.{repeats-permutation, permutation-repeats, repeats-none, chain-tables}
 
 -- a verdict by a test is explained where both its sides are
@@ -41,26 +42,6 @@ chain↔ d = (
   λ h. all-intro (2 ^ d .m) _ (λ x l. eq-eqb _ _ (h x l)),
 )
 
-module _ (d : Design) where
-  tableRepeats : ℕ → Bool
-  tableRepeats t = repeats (2 ^ d .m) (stageOf d t .table)
-
-  -- the first table that repeats an entry, and those below it
-  first-repeats : firstRepeating d < d .k → (tableRepeats (firstRepeating d) ≡ true) × (any (firstRepeating d) tableRepeats ≡ false)
-  unfolding firstRepeating tableRepeats
-  first-repeats l =
-      let a : any (d .k) tableRepeats ≡ true = ⊎-elim (λ e. e) (λ e. absurd (omega (arith, first-none (d .k) tableRepeats e))) (true-or-false _) in
-      let r = first-is (d .k) tableRepeats a in
-      (r .1, r .2)
-
-  none-repeats : d .k ≤ firstRepeating d → any (d .k) tableRepeats ≡ false
-  unfolding firstRepeating tableRepeats
-  none-repeats l = not-true-false _ (λ a. omega (arith, first-is (d .k) tableRepeats a))
-
-  none-permutes : (n : ℕ) → any n tableRepeats ≡ false → (t : ℕ) → t < n → TablePermutes d t
-  unfolding tableRepeats
-  none-permutes n e t l = repeats-permutation (d .m) (stageOf d t .table) (any-none n tableRepeats e t l)
-
 -- ---- explained
 
 module _ (f : List ℕ) (n : ℕ) (d : Design) (wf : WellFormed d) where
@@ -69,6 +50,7 @@ module _ (f : List ℕ) (n : ℕ) (d : Design) (wf : WellFormed d) where
 
   -- the stages from t on, where those before it are sound
   stages-explained : (left t : ℕ) → t + left ≡ d .k → Passed f n d t → Explained f n (stagesFrom d t)
+  unfolding stageVerdict
   stages-explained zero t e p =
       let q : t ≡ d .k = omega arith in
       rw (stages-end d t (q ∙ sym (wf .count))) (accepted d (subst (Passed f n d) q p))
@@ -91,7 +73,7 @@ module _ (f : List ℕ) (n : ℕ) (d : Design) (wf : WellFormed d) where
       (λ c. fault-12 d t p l (λ h. clash (correct↔ (d .m) (d .s) g .1 h) c)))
 
   judged-explained : reading f ≡ means d → Explained f n (judged d n)
-  unfolding judged tableRepeats
+  unfolding judged
   judged-explained reads =
       picked f n (repeats (2 ^ d .m) (d .box)) _ _
       (λ e. fault-8 d reads (repeats-none (d .m) (d .box) e))

@@ -1,9 +1,11 @@
 -- Laws of the verdict.
 pub mod Marking
-pub mod Steps
 pub mod Permutations
 pub mod Repeating
 pub mod Composing
+pub mod Judging
 pub mod Uniform
+pub mod Steps
+pub mod Answering
 pub mod Read
 pub mod Exactly

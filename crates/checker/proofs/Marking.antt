@@ -17,7 +17,7 @@ use borrow.Author.Tests.{eq-eqb, ne-eqb, eqb-true}
 use Rattle.anf.specs.Tests.{any}
 use Rattle.anf.proofs.Testing.{or-right, any-at, any-some, any-step, none-any, not-true-false, clash}
 use Rattle.anf.proofs.Counting.{Injective}
-use Rattle.checker.specs.Marks.{marked, mark, Clear, repeatsBy}
+use Rattle.checker.specs.Marks.{marked, mark, Clear, repeatsBy, zeroed}
 
 or-false-right : (a b : Bool) → b ≡ false → (a || b) ≡ a
 or-false-right true b e = refl
@@ -107,9 +107,11 @@ clear-none n l rest whole q y h =
     (ap (λ (x : ℕ). eqb (x % 2) 1) (zero-div (2 ^ (y % 8))))
 
 -- cleared, marked within the first k bytes, and cleared again
-pub cleared-again : (k : ℕ) (l₀ l₁ l₂ l₃ : List ℕ) → l₁ ≡ replicate k 0 ++ drop k l₀ → drop k l₂ ≡ drop k l₁ → l₃ ≡ replicate k 0 ++ drop k l₂
-    → l₃ ≡ replicate k 0 ++ drop k l₀
-cleared-again k l₀ l₁ l₂ l₃ a b c = rw (c, b, a, drop-at (replicate k 0) (drop k l₀) k (length-replicate {A = ℕ} k 0)) refl
+cleared-same : (k : ℕ) (l₀ l₁ l₂ l₃ : List ℕ) → l₁ ≡ zeroed k l₀ → drop k l₂ ≡ drop k l₁ → l₃ ≡ zeroed k l₂ → l₃ ≡ zeroed k l₀
+cleared-same k l₀ l₁ l₂ l₃ a b c = rw (c, b, a, drop-at (replicate k 0) (drop k l₀) k (length-replicate {A = ℕ} k 0)) refl
+
+pub cleared-again : (n k : ℕ) → n ≡ k → (l₀ l₁ l₂ l₃ : List ℕ) → l₁ ≡ zeroed n l₀ → drop k l₂ ≡ drop k l₁ → l₃ ≡ zeroed n l₂ → l₃ ≡ zeroed k l₀
+cleared-again n k e l₀ l₁ l₂ l₃ a b c = cleared-same k l₀ l₁ l₂ l₃ (subst (λ (x : ℕ). l₁ ≡ zeroed x l₀) e a) b (subst (λ (x : ℕ). l₃ ≡ zeroed x l₂) e c)
 
 -- ---- what a run has found
 

@@ -1,12 +1,13 @@
 -- Marks, by which the checker finds uniformity: one bit for each sharing, eight to a byte, lowest first.
-use Prim.Native.Nat.{ℕ, _/_, _%_, _^_, _<_}
+use Prim.Native.Nat.{ℕ, _*_, _/_, _%_, _^_, _<_}
 use mathlib.Core.Path.{_≡_}
-use mathlib.Core.List.{List}
-use mathlib.Core.Bool.{Bool, false}
-use lib.ListN.{getD, set}
+use mathlib.Core.List.{List, _++_}
+use mathlib.Core.Bool.{Bool, false, not}
+use lib.ListN.{getD, set, drop, replicate}
 use lib.Dec.{eqb}
-use lib.Bits.{bitOr}
+use lib.Bits.{bitAnd, bitOr}
 use Rattle.anf.specs.Tests.{any}
+use Rattle.design.specs.declared.Layout.{Layout}
 
 -- y is marked
 unfoldable pub marked : List ℕ → ℕ → Bool
@@ -23,3 +24,18 @@ Clear n l = (y : ℕ) → y < n → marked l y ≡ false
 -- some two of g 0, g 1, .. g (n - 1) are equal
 unfoldable pub repeatsBy : ℕ → (ℕ → ℕ) → Bool
 repeatsBy n g = any n (λ i. any i (λ j. eqb (g j) (g i)))
+
+-- the first n bytes zero, the rest as it was
+abbrev pub zeroed : ℕ → List ℕ → List ℕ
+zeroed n l = replicate n 0 ++ drop n l
+
+-- the number of sharings, and the bytes that hold a mark for each
+abbrev pub sharingsOf : Layout → ℕ
+sharingsOf l = 2 ^ (l .head .m * l .head .s)
+
+abbrev pub marksOf : Layout → ℕ
+marksOf l = sharingsOf l / 8
+
+-- a term names a variable of the group
+abbrev pub named : ℕ → ℕ → Bool
+named group t = not (eqb (bitAnd t group) 0)

@@ -27,14 +27,18 @@ chainIsBox d = all (2 ^ d .m) (λ x. eqb (chained (d .stages) x) (entry (d .box)
 unfoldable pub firstRepeating : Design → ℕ
 firstRepeating d = first (d .k) (λ t. repeats (2 ^ d .m) (stageOf d t .table))
 
--- The stages from number i on, each judged: 12 when not correct, 13 when not non-complete with the lowest such component, 14 when not uniform.
+-- What stage number i answers, where those after it answer `onward`: 12 when not correct, 13 when not non-complete, with the lowest such component,
+-- 14 when not uniform.
+unfoldable pub stageVerdict : Design → ℕ → Stage → Verdict → Verdict
+stageVerdict d i g onward =
+    let judged = pick (uniform (d .m) (d .s) g) onward (answer 14 i 0) in
+    let right = pick (any (d .s) (readsOwn (d .m) (d .s) g)) (answer 13 i (first (d .s) (readsOwn (d .m) (d .s) g) + 1)) judged in
+    pick (correct (d .m) (d .s) g) right (answer 12 i 0)
+
+-- the stages from number i on, one after the other
 unfoldable pub judgeStages : Design → ℕ → List Stage → Verdict
 judgeStages d i [] = answer 0 (d .k) 0
-judgeStages d i (g ∷ gs) =
-    let onward = judgeStages d (suc i) gs in
-    let unread = pick (uniform (d .m) (d .s) g) onward (answer 14 i 0) in
-    let right = pick (any (d .s) (readsOwn (d .m) (d .s) g)) (answer 13 i (first (d .s) (readsOwn (d .m) (d .s) g) + 1)) unread in
-    pick (correct (d .m) (d .s) g) right (answer 12 i 0)
+judgeStages d i (g ∷ gs) = let onward = judgeStages d (suc i) gs in stageVerdict d i g onward
 
 -- the verdict on a design, with a workspace of n bytes
 unfoldable pub judged : Design → ℕ → Verdict

@@ -1,10 +1,103 @@
 // The verdict on a design file.
 mod marks; // marks.rt: marks in a lent workspace
+mod stages; // stages.rt: one stage judged on all its sharings
 mod tables; // tables.rt: the chain of tables, and tables that repeat an entry
+
+use design::Layout;
+use marks::clear;
+use stages::correct_stage;
+use stages::meets_twice;
+use stages::offending;
+use tables::chain_is_box;
+use tables::first_repeating;
+ghost use mathlib.Core.Path.{_≡_};
+ghost use mathlib.Core.Bool.{false};
+ghost use Prim.Native.Nat.{_+_, _*_, _^_, _≤_, _<_};
+ghost use lib.ListN.{length};
+ghost use Rattle.anf.specs.Tables.{repeats};
+ghost use Rattle.design.specs.Design.{stageOf};
+ghost use Rattle.design.specs.Reading.{meaning};
+ghost use Rattle.design.specs.Layout.{Describes};
+ghost use Rattle.checker.specs.Verdict.{answer, firstRepeating, stageVerdict, judgeStages, verdict, workspaceAfter};
+ghost use Rattle.checker.specs.Marks.{zeroed, marksOf};
 
 // Reason, place and component, as the paper numbers them.
 pub struct Verdict {
     pub reason: usize,
     pub place: usize,
     pub component: usize,
+}
+
+fn give(reason: usize, place: usize, component: usize) -> Verdict
+    ensures { λ r. ⌜ r ≡ answer reason place component ⌝ }
+{
+    Verdict {
+        reason,
+        place,
+        component,
+    }
+}
+
+// What stage `t`, counted from 0, answers: 12, 13 or 14, and 0 where it has no fault. The marks are zero before and after.
+fn judge_stage(file: &[u8], layout: Layout, t: usize, workspace: &mut [u8]) -> Verdict
+    requires { ⌜ Describes (now file) layout × (t < layout .head .k) × (marksOf layout ≤ length (now workspace)) × (zeroed (marksOf layout) (now workspace) ≡ now workspace) × (layout .head .k ≤ firstRepeating (meaning (now file))) ⌝ }
+    ensures { λ r. ⌜ r ≡ stageVerdict (meaning (now (file .entry))) (t + 1) (stageOf (meaning (now (file .entry))) t) (answer 0 0 0) ⌝ }
+    ensures { λ _. ⌜ now (workspace .exit) ≡ now (workspace .entry) ⌝ }
+{
+    if !correct_stage(file, layout, t) {
+        return give(12, t + 1, 0);
+    }
+    let j = offending(file, layout, t);
+    if j < layout.head.s {
+        return give(13, t + 1, j + 1);
+    }
+    if meets_twice(file, layout, t, workspace) {
+        return give(14, t + 1, 0);
+    }
+    give(0, 0, 0)
+}
+
+// The stages, each judged.
+fn judge_stages(file: &[u8], layout: Layout, workspace: &mut [u8]) -> Verdict
+    requires { ⌜ Describes (now file) layout × (marksOf layout ≤ length (now workspace)) × (zeroed (marksOf layout) (now workspace) ≡ now workspace) × (layout .head .k ≤ firstRepeating (meaning (now file))) ⌝ }
+    ensures { λ r. ⌜ r ≡ judgeStages (meaning (now (file .entry))) 1 (meaning (now (file .entry)) .stages) ⌝ }
+    ensures { λ _. ⌜ now (workspace .exit) ≡ now (workspace .entry) ⌝ }
+{
+    let k = layout.head.k;
+    let mut t: usize = 0;
+    while t < k {
+        let v = judge_stage(file, layout, t, workspace);
+        if v.reason != 0 {
+            return v;
+        }
+        t += 1;
+    }
+    give(0, k, 0)
+}
+
+// The verdict on a file, with a lent workspace.
+pub fn judge(file: &[u8], workspace: &mut [u8]) -> Verdict
+    ensures { λ r. ⌜ r ≡ verdict (now (file .entry)) (length (now (workspace .entry))) ⌝ }
+    ensures { λ _. ⌜ now (workspace .exit) ≡ workspaceAfter (now (file .entry)) (now (workspace .entry)) ⌝ }
+{
+    let layout = design::read(file);
+    if layout.reason != 0 {
+        return give(layout.reason, layout.place, 0);
+    }
+    if anf::repeats(design::box_table(file, layout)) {
+        return give(8, 0, 0);
+    }
+    let n = anf::points(layout.head.m * layout.head.s) / 8;
+    if workspace.len() < n {
+        return give(9, 0, 0);
+    }
+    clear(workspace, n);
+    if !chain_is_box(file, layout) {
+        return give(10, 0, 0);
+    }
+    let t = first_repeating(file, layout);
+    if t < layout.head.k {
+        return give(11, t + 1, 0);
+    }
+    judge_stages(file, layout, workspace)
 }

@@ -1,0 +1,44 @@
+use borrow.Author.Needs.{needs}
+-- `agrees` meets its contract.
+use mathlib.Core.Path.{_≡_, refl, sym, ap, ap₂, _∙_}
+use lib.Dec.{eqb}
+use mathlib.Core.Bool.{Bool, true, false}
+use Prim.Native.Nat.{ℕ, _+_, _-_, _*_, _/_, _%_, _^_, _<_, _≤_}
+use native.Mathlib.Omega.{arith}
+use native.Mathlib.Nat.{not-suc-le-zero}
+use lib.ListN.{length, getD, set, length-set}
+use borrow.Author.Needs.{needs}
+use Rattle.checker.proofs.stages.agrees.Statement.{statement}
+use Rattle.checker.proofs.stages.agrees.Tie as tie
+use Rattle.checker.proofs.stages.agrees.Reads as reads
+use Rattle.checker.proofs.stages.agrees.Lts as lts
+use Rattle.threshold.proofs.sum_of.Reads as sum-of-reads
+
+sum-of-requires : tie.Need-sum-of-requires
+sum-of-requires c κs = search needs
+
+cast-secret : tie.Need-cast-secret
+cast-secret c = search needs
+
+sum-of-requires-2 : tie.Need-sum-of-requires-2
+sum-of-requires-2 c κs = search needs
+
+shared-slice-read-result : tie.Need-shared-slice-read-result
+shared-slice-read-result c = search needs
+
+cast-result : tie.Need-cast-result
+cast-result c = omega (arith, c .shared-slice-known2 .given (c .before .before .sum-of .result))
+
+returns : tie.Need-returns
+returns c = ap₂ (λ (a b : ℕ). eqb a (getD (c .before .before .before .before .args .table .now) b 0)) (c .before .sum-of2 .ensures .0) (c .before .before .sum-of .ensures .0)
+
+pub agrees-spec : {M : Type 1} → statement M
+agrees-spec =
+    tie.close
+    (tie.spec
+    sum-of-requires
+    cast-secret
+    sum-of-requires-2
+    shared-slice-read-result
+    cast-result
+    returns)

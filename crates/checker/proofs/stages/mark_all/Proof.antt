@@ -1,0 +1,84 @@
+-- `mark_all` meets its contract: the outputs of the sharings passed are marked, none of them twice.
+use mathlib.Core.Path.{_≡_, refl, sym, ap, _∙_}
+use mathlib.Core.Bool.{Bool, true, false}
+use Prim.Native.Nat.{ℕ, _+_, _-_, _*_, _/_, _%_, _^_, _<_, _≤_}
+use native.Mathlib.Omega.{arith}
+use native.Mathlib.Nat.{not-suc-le-zero}
+use lib.ListN.{length, getD, set, length-set}
+use borrow.Author.Needs.{needs}
+use lib.ListN.{drop}
+use Rattle.design.specs.Design.{stageOf}
+use Rattle.design.specs.Reading.{meaning}
+use Rattle.design.proofs.Answered.{described, laid-out}
+use Rattle.threshold.specs.Stages.{output}
+use Rattle.checker.specs.Marks.{marked, mark, repeatsBy, sharingsOf}
+use Rattle.checker.proofs.Marking.{Run, run-start, run-found, run-step, run-rest}
+use Rattle.checker.proofs.Judging.{sharings-whole}
+use Rattle.checker.proofs.stages.mark_all.Statement.{statement}
+use Rattle.checker.proofs.stages.mark_all.Tie as tie
+use Rattle.checker.proofs.stages.mark_all.Reads as reads
+use Rattle.checker.proofs.stages.mark_all.Lts as lts
+use Rattle.checker.proofs.marks.mark_one.Reads as mark-one-reads
+use Rattle.checker.proofs.stages.sharings.Reads as sharings-reads
+use Rattle.threshold.proofs.output_at.Reads as output-at-reads
+
+abbrev Inv-loop : tie.InvT-loop
+Inv-loop file t workspace₀ layout n x₀ workspace x = Run (sharingsOf layout) (output (stageOf (meaning file) t .lists)) workspace₀ workspace x
+
+abbrev μ-loop : tie.MeasureT-loop
+μ-loop file t workspace₀ layout n x₀ workspace x = n - x
+
+sharings-requires : tie.Need-sharings-requires Inv-loop μ-loop
+sharings-requires c κs = described (c .before .before .pre .0) .bounds .bits
+
+loop-holds : tie.Need-loop-holds Inv-loop μ-loop
+loop-holds c = run-start _ _ _ (c .before .before .before .pre .3)
+
+output-at-requires : tie.Need-output-at-requires Inv-loop μ-loop
+output-at-requires c κs = (laid-out (c .before .before .before .before .before .before .before .before .pre .0), c .before .before .before .before .before .before .before .before .pre .1)
+
+cast-mark-one : tie.Need-cast-mark-one Inv-loop μ-loop
+cast-mark-one c = omega arith
+
+mark-one-requires : tie.Need-mark-one-requires Inv-loop μ-loop
+mark-one-requires c κs = omega (arith, c .before .output-at .ensures .1, sharings-whole _ _ (c .before .before .before .before .before .before .before .before .before .before .pre .0) _ (c .before .before .before .before .before .before .before .before .before .before .pre .1), c .before .before .before .before .before .before .before .before .before .before .pre .2, c .before .before .before .before .before .before .loop .inv .long)
+
+same-length : tie.Need-same-length Inv-loop μ-loop
+same-length c = c .before .before .before .mark-one .kept .0 ∙ c .before .before .before .before .before .before .before .before .before .before .loop .inv .long
+
+returns : tie.Need-returns Inv-loop μ-loop
+returns c = let b = rw (c .before .before .before .before .before .output-at .ensures .0) at (c .before .before .before .before .before .output-at .ensures .1) in (sym (run-found _ _ _ _ _ (sharings-whole _ _ (c .before .before .before .before .before .before .before .before .before .before .before .before .before .before .pre .0) _ (c .before .before .before .before .before .before .before .before .before .before .before .before .before .before .pre .1)) (c .before .before .before .before .before .before .before .before .before .before .before .before .before .before .pre .2) (c .before .before .before .before .before .before .before .before .before .before .loop .inv) (omega (arith, c .before .before .before .before .before .before .before .before .before .before .before .sharings .ensures .0)) b (sym (rw (c .before .before .before .before .before .output-at .ensures .0) at (c .before .before .before .mark-one .ensures .0)) ∙ c .if1 .taken)), rw (c .before .before .before .mark-one .ensures .1, c .before .before .before .before .before .output-at .ensures .0) (run-rest _ _ _ _ _ (sharings-whole _ _ (c .before .before .before .before .before .before .before .before .before .before .before .before .before .before .pre .0) _ (c .before .before .before .before .before .before .before .before .before .before .before .before .before .before .pre .1)) (c .before .before .before .before .before .before .before .before .before .before .before .before .before .before .pre .2) (c .before .before .before .before .before .before .before .before .before .before .loop .inv) (omega (arith, c .before .before .before .before .before .before .before .before .before .before .before .sharings .ensures .0)) b))
+
+add-x : tie.Need-add-x Inv-loop μ-loop
+add-x c = omega (arith, c .before .before .before .before .before .before .before .before .before .before .before .sharings .ensures .1)
+
+loop-less : tie.Need-loop-less Inv-loop μ-loop
+loop-less c = omega (arith, c .before .before .before .before .before .before .before .before .before .before .before .sharings .ensures .0)
+
+loop-again : tie.Need-loop-again Inv-loop μ-loop
+loop-again c = let b = rw (c .before .before .before .before .before .output-at .ensures .0) at (c .before .before .before .before .before .output-at .ensures .1) in rw (c .before .before .before .mark-one .ensures .1, c .before .before .before .before .before .output-at .ensures .0) (run-step _ _ _ _ _ (sharings-whole _ _ (c .before .before .before .before .before .before .before .before .before .before .before .before .before .before .pre .0) _ (c .before .before .before .before .before .before .before .before .before .before .before .before .before .before .pre .1)) (c .before .before .before .before .before .before .before .before .before .before .before .before .before .before .pre .2) (c .before .before .before .before .before .before .before .before .before .before .loop .inv) (omega (arith, c .before .before .before .before .before .before .before .before .before .before .before .sharings .ensures .0)) b (sym (rw (c .before .before .before .before .before .output-at .ensures .0) at (c .before .before .before .mark-one .ensures .0)) ∙ c .if1 .left))
+
+same-length-2 : tie.Need-same-length-2 Inv-loop μ-loop
+same-length-2 c = c .before .loop .inv .long
+
+returns-2 : tie.Need-returns-2 Inv-loop μ-loop
+returns-2 c = let e : c .before .loop .x ≡ sharingsOf (c .before .before .before .before .before .args .t2) = omega (arith, c .before .before .sharings .ensures .0, c .before .loop .inv .most) in (sym (rw e at (c .before .loop .inv .once)), c .before .loop .inv .rest)
+
+pub mark-all-spec : {M : Type 1} → statement M
+mark-all-spec =
+    tie.close
+    (tie.spec
+    Inv-loop
+    μ-loop
+    sharings-requires
+    loop-holds
+    output-at-requires
+    cast-mark-one
+    mark-one-requires
+    same-length
+    returns
+    add-x
+    loop-less
+    loop-again
+    same-length-2
+    returns-2)

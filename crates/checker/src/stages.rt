@@ -1,0 +1,126 @@
+// One stage judged on all its sharings. Stages and components are counted from 0.
+use super::marks::clear;
+use super::marks::mark_one;
+use design::Layout;
+ghost use mathlib.Core.Path.{_≡_};
+ghost use Prim.Native.Nat.{_*_, _^_, _≤_, _<_};
+ghost use lib.Dec.{eqb};
+ghost use lib.ListN.{length, getD, drop};
+ghost use Rattle.anf.specs.Tests.{first};
+ghost use Rattle.design.specs.Design.{stageOf};
+ghost use Rattle.design.specs.Reading.{meaning};
+ghost use Rattle.design.specs.Layout.{Describes};
+ghost use Rattle.threshold.specs.Sharing.{sum, variables};
+ghost use Rattle.threshold.specs.Stages.{output, correct, readsOwn};
+ghost use Rattle.checker.specs.Marks.{Clear, repeatsBy, zeroed, sharingsOf, marksOf, named};
+
+// Whether the output sharing `y` sums to what the table makes of the sum of the sharing `x`.
+fn agrees(table: &[u8], m: usize, s: usize, x: u32, y: u32) -> bool
+    requires { ⌜ (m ≤ 20) × (length (now table) ≡ 2 ^ m) ⌝ }
+    ensures { λ r. ⌜ r ≡ eqb (sum m s y) (getD (now (table .entry)) (sum m s x) 0) ⌝ }
+{
+    let secret = threshold::sum_of(x, m, s) as usize;
+    threshold::sum_of(y, m, s) == table[secret] as u32
+}
+
+// How many sharings there are.
+fn sharings(layout: Layout) -> u32
+    requires { ⌜ layout .head .m * layout .head .s ≤ 20 ⌝ }
+    ensures { λ r. ⌜ (r ≡ sharingsOf layout) × (r < 4294967296) ⌝ }
+{
+    anf::points(layout.head.m * layout.head.s) as u32
+}
+
+// Whether stage `t` is correct: all sharings are tried, up to the first that is wrong.
+pub fn correct_stage(file: &[u8], layout: Layout, t: usize) -> bool
+    requires { ⌜ Describes (now file) layout × (t < layout .head .k) ⌝ }
+    ensures { λ r. ⌜ r ≡ correct (layout .head .m) (layout .head .s) (stageOf (meaning (now (file .entry))) t) ⌝ }
+{
+    let m = layout.head.m;
+    let s = layout.head.s;
+    let n = sharings(layout);
+    let table = design::table(file, layout, t);
+    let mut x: u32 = 0;
+    while x < n {
+        let y = threshold::output_at(file, layout.head, &layout.starts, t, x);
+        if !agrees(table, m, s, x, y) {
+            return false;
+        }
+        x += 1;
+    }
+    true
+}
+
+// The variables of share `j`.
+fn own_variables(m: usize, j: usize) -> u32
+    requires { ⌜ (m ≤ 6) × (j < 5) ⌝ }
+    ensures { λ r. ⌜ r ≡ variables m j ⌝ }
+{
+    ((anf::points(m) - 1) as u32) << ((m * j) as u32)
+}
+
+// Whether a term names a variable of the group.
+fn names_one(term: u32, group: u32) -> bool
+    ensures { λ r. ⌜ r ≡ named group term ⌝ }
+{
+    term & group != 0
+}
+
+// The lowest component of stage `t` that depends on its own share; their number where there is none.
+pub fn offending(file: &[u8], layout: Layout, t: usize) -> usize
+    requires { ⌜ Describes (now file) layout × (t < layout .head .k) ⌝ }
+    ensures { λ r. ⌜ r ≡ first (layout .head .s) (readsOwn (layout .head .m) (layout .head .s) (stageOf (meaning (now (file .entry))) t)) ⌝ }
+{
+    let m = layout.head.m;
+    let s = layout.head.s;
+    let mut found = s;
+    let mut j: usize = 0;
+    'components: while j < s {
+        let own = own_variables(m, j);
+        let mut b: usize = 0;
+        while b < m {
+            let list = design::list(file, layout, t, m * j + b);
+            let n = design::count(list);
+            let mut i: usize = 0;
+            while i < n {
+                if names_one(design::term(list, i), own) {
+                    found = j;
+                    break 'components;
+                }
+                i += 1;
+            }
+            b += 1;
+        }
+        j += 1;
+    }
+    found
+}
+
+// Marks the output of each sharing, up to the first that is marked already, and answers whether there is one.
+fn mark_all(file: &[u8], layout: Layout, t: usize, workspace: &mut [u8]) -> bool
+    requires { ⌜ Describes (now file) layout × (t < layout .head .k) × (marksOf layout ≤ length (now workspace)) × Clear (sharingsOf layout) (now workspace) ⌝ }
+    ensures { λ r. ⌜ (r ≡ repeatsBy (sharingsOf layout) (output (stageOf (meaning (now (file .entry))) t .lists))) × (drop (marksOf layout) (now (workspace .exit)) ≡ drop (marksOf layout) (now (workspace .entry))) ⌝ }
+{
+    let n = sharings(layout);
+    let mut x: u32 = 0;
+    while x < n {
+        let y = threshold::output_at(file, layout.head, &layout.starts, t, x);
+        if mark_one(workspace, y as usize) {
+            return true;
+        }
+        x += 1;
+    }
+    false
+}
+
+// Whether two sharings give one output of stage `t`. The workspace that the marks take is zero afterwards.
+pub fn meets_twice(file: &[u8], layout: Layout, t: usize, workspace: &mut [u8]) -> bool
+    requires { ⌜ Describes (now file) layout × (t < layout .head .k) × (marksOf layout ≤ length (now workspace)) ⌝ }
+    ensures { λ r. ⌜ (r ≡ repeatsBy (sharingsOf layout) (output (stageOf (meaning (now (file .entry))) t .lists))) × (now (workspace .exit) ≡ zeroed (marksOf layout) (now (workspace .entry))) ⌝ }
+{
+    let n = (sharings(layout) / 8) as usize;
+    clear(workspace, n);
+    let twice = mark_all(file, layout, t, workspace);
+    clear(workspace, n);
+    twice
+}
