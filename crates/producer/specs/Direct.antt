@@ -1,0 +1,53 @@
+-- The direct sharing of a box.
+use Prim.Native.Nat.{ℕ, zero, suc, _+_, _*_, _/_, _%_, _^_, _<_}
+use mathlib.Core.Path.{_≡_}
+use mathlib.Core.Bool.{Bool, not, _&&_}
+use mathlib.Core.List.{List, [], _∷_}
+use lib.Dec.{eqb}
+use Rattle.anf.specs.Tests.{pick, all, any, first, total, bit, count, tabulate}
+use Rattle.anf.specs.NormalForm.{subsetSum}
+use Rattle.anf.specs.Terms.{passing}
+use Rattle.design.specs.Design.{Stage, Design, entry}
+use Rattle.threshold.specs.Sharing.{share}
+use Rattle.threshold.specs.Stages.{Correct, NonComplete}
+
+-- the set x has the element i: bit i of x is 1
+unfoldable pub has : ℕ → ℕ → Bool
+has x i = eqb (x / 2 ^ i % 2) 1
+
+-- p is a product of the term u: a share is chosen for each variable of u, and p names that share's bit of it and no other
+unfoldable pub isProduct : ℕ → ℕ → ℕ → ℕ → Bool
+isProduct m s u p = all m (λ v. eqb (count s (λ j. has p (j * m + v))) (bit (has u v)))
+
+-- the set J of the chosen shares of a product
+unfoldable pub chosen : ℕ → ℕ → ℕ → ℕ
+chosen m s p = total s (λ j. bit (not (eqb (share m j p) 0)) * 2 ^ j)
+
+-- the component after c: after the last comes the first
+abbrev pub after : ℕ → ℕ → ℕ
+after s c = pick (eqb (c + 1) s) 0 (c + 1)
+
+-- The component, counted from 0, to which a product goes: the lowest c outside J with the one after it in J. The constant goes to the first.
+unfoldable pub componentFor : ℕ → ℕ → ℕ
+componentFor s J = pick (eqb J 0) 0 (first s (λ c. not (has J c) && has J (after s c)))
+
+-- p stands in the list of bit b of component c: it is a product of a term of output bit b, and goes to component c
+unfoldable pub stands : ℕ → ℕ → (ℕ → ℕ) → ℕ → ℕ → ℕ → Bool
+stands m s box c b p = any (2 ^ m) (λ u. isProduct m s u p && has (subsetSum m box u) b) && eqb (componentFor s (chosen m s p)) c
+
+-- these products in rising order
+unfoldable pub directList : ℕ → ℕ → (ℕ → ℕ) → ℕ → ℕ → List ℕ
+directList m s box c b = passing (2 ^ (m * s)) (stands m s box c b)
+
+unfoldable pub directStage : ℕ → ℕ → List ℕ → Stage
+directStage m s t = record { table = t; lists = tabulate (m * s) (λ i. directList m s (entry t) (i / m) (i % m)) }
+
+-- one stage, with G equal to S
+unfoldable pub directSharing : ℕ → ℕ → List ℕ → Design
+directSharing m s t = record { m = m; s = s; k = 1; box = t; stages = directStage m s t ∷ [] }
+
+-- some component functions, whatever they are, share the table correctly and non-completely with s shares
+pub record Shareable (m s : ℕ) (t : List ℕ) : Type 0 where
+  pub F : ℕ → ℕ → ℕ
+  pub correct : Correct m s F t
+  pub nonComplete : NonComplete m s F

@@ -1,0 +1,3 @@
+-- The direct producer.
+pub mod Direct
+pub mod Producing
