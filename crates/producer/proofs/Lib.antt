@@ -1,0 +1,6 @@
+-- Laws of the direct sharing.
+pub mod Elements
+pub mod Products
+pub mod Expansion
+pub mod Counts
+pub mod Placement
