@@ -35,7 +35,7 @@ pick-both : (a b : Bool) (x : ℕ) → pick (a && b) x 0 ≡ pick a (pick b x 0)
 pick-both true b x = refl
 pick-both false b x = refl
 
-pick-swap : (a b : Bool) (x : ℕ) → pick a (pick b x 0) 0 ≡ pick b (pick a x 0) 0
+pub pick-swap : (a b : Bool) (x : ℕ) → pick a (pick b x 0) 0 ≡ pick b (pick a x 0) 0
 pick-swap true true x = refl
 pick-swap true false x = refl
 pick-swap false true x = refl
@@ -121,7 +121,7 @@ product-blocks m s u t r lt lr =
     ∙ ap (λ (x : ℕ). subset x u && isProduct m s (bitXor u x) (t * 2 ^ (m * s) + r)) (share-top m s t r lt lr)
     ∙ ap (λ (x : Bool). subset t u && x) (product-low m s (bitXor u t) t r lr)
 
-xorBelow-pick : (n : ℕ) (c : Bool) (f : ℕ → ℕ) → xorBelow n (λ t. pick c (f t) 0) ≡ pick c (xorBelow n f) 0
+pub xorBelow-pick : (n : ℕ) (c : Bool) (f : ℕ → ℕ) → xorBelow n (λ t. pick c (f t) 0) ≡ pick c (xorBelow n f) 0
 xorBelow-pick n true f = refl
 xorBelow-pick n false f = xorBelow-none n (λ t. 0) (λ v l. refl)
 

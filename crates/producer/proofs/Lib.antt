@@ -4,3 +4,4 @@ pub mod Products
 pub mod Expansion
 pub mod Counts
 pub mod Placement
+pub mod Stage
