@@ -5,3 +5,7 @@ pub mod Expansion
 pub mod Counts
 pub mod Placement
 pub mod Stage
+pub mod Formed
+pub mod Shareable
+pub mod Theorems
+pub mod Bench

@@ -4,8 +4,8 @@ use mathlib.Core.Bool.{Bool, not}
 use mathlib.Core.List.{List, _++_}
 use lib.ListN.{length, drop}
 use lib.Dec.{eqb, ltb, leb}
-use Rattle.anf.specs.Tests.{pick, all}
-use Rattle.anf.specs.Tables.{repeats}
+use Rattle.anf.specs.Tests.{pick}
+use Rattle.anf.specs.Tables.{entriesBelow, repeats}
 use Rattle.anf.specs.NormalForm.{degree}
 use Rattle.design.specs.Limits.{broken}
 use Rattle.design.specs.Design.{entry}
@@ -22,7 +22,7 @@ unfoldable pub producedReason : ℕ → ℕ → List ℕ → ℕ → ℕ
 producedReason m s t room =
     pick (broken m s 1) 4
     (pick (not (eqb (length t) (2 ^ m))) 3
-    (pick (not (all (2 ^ m) (λ x. ltb (entry t x) (2 ^ m)))) 5
+    (pick (not (entriesBelow t (2 ^ m))) 5
     (pick (repeats (2 ^ m) t) 8
     (pick (leb s (degree m (entry t))) 16
     (pick (ltb room (length (produced m s t))) 17 0)))))
