@@ -1,2 +1,44 @@
--- The bench designs of producing: every row by computing.
-use mathlib.Core.Path.{_≡_, refl, sym, ap, ap₂, _∙_, subst}
+-- The bench designs of producing: every row of the table, by computing; and the products of xy that go to component 1.
+use Prim.Native.Nat.{ℕ, _^_}
+use mathlib.Core.Path.{_≡_, refl}
+use mathlib.Core.Bool.{Bool, _&&_}
+use mathlib.Core.List.{List, [], _∷_, map}
+use lib.Dec.{eqb}
+use lib.Count.{ones}
+use lib.ListN.{length}
+use Rattle.anf.specs.Tests.{all, any, first, total, tabulate}
+use Rattle.anf.specs.Sums.{xorBelow}
+use Rattle.anf.specs.NormalForm.{subset, subsetSum, largest, degree}
+use Rattle.anf.specs.Terms.{passing}
+use Rattle.anf.specs.Tables.{entriesBelow, repeats}
+use Rattle.design.specs.Limits.{broken}
+use Rattle.design.specs.Bytes.{termBytes}
+use Rattle.design.specs.Encode.{join, aRecord, stageBytes, encode}
+use Rattle.design.specs.Design.{entry}
+use Rattle.threshold.specs.Sharing.{share}
+use Rattle.producer.specs.Direct.{has, isProduct, chosen, componentFor, stands, directList, directStage, directSharing}
+use Rattle.producer.specs.Producing.{produced, producedReason, producing, outputAfter}
+use Rattle.producer.specs.Bench.{rows}
+
+-- the definitions that computing opens
+unfoldable pub computing : ℕ
+unfolding all any first total tabulate xorBelow subset subsetSum largest degree passing entriesBelow repeats broken termBytes join aRecord stageBytes encode share has isProduct chosen componentFor stands directList directStage directSharing produced producedReason producing outputAfter ones
+computing = 0
+
+pub bench-answers : map (λ r. producing (r .m) (r .s) (r .table) (length (r .output))) rows ≡ map (λ r. r .answer) rows
+unfolding computing
+bench-answers = refl
+
+pub bench-outputs : map (λ r. outputAfter (r .m) (r .s) (r .table) (r .output)) rows ≡ map (λ r. r .after) rows
+unfolding computing
+bench-outputs = refl
+
+-- its lists
+pub bench-lists : directStage 1 3 (1 ∷ 0 ∷ []) .lists ≡ (0 ∷ 2 ∷ []) ∷ (4 ∷ []) ∷ (1 ∷ []) ∷ []
+unfolding computing
+bench-lists = refl
+
+-- for three shares and a product xy, component 1 gets x2y2, x3y2, x2y3
+pub xy-first : passing (2 ^ 6) (λ p. isProduct 2 3 3 p && eqb (componentFor 3 (chosen 2 3 p)) 0) ≡ 12 ∷ 24 ∷ 36 ∷ []
+unfolding computing
+xy-first = refl

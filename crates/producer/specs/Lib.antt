@@ -1,3 +1,4 @@
 -- The direct producer.
 pub mod Direct
 pub mod Producing
+pub mod Bench
