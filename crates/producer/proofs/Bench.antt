@@ -16,13 +16,13 @@ use Rattle.design.specs.Bytes.{termBytes}
 use Rattle.design.specs.Encode.{join, aRecord, stageBytes, encode}
 use Rattle.design.specs.Design.{entry}
 use Rattle.threshold.specs.Sharing.{share}
-use Rattle.producer.specs.Direct.{has, isProduct, chosen, componentFor, stands, directList, directStage, directSharing}
+use Rattle.producer.specs.Direct.{has, isProduct, chosen, componentFor, stands, directList, directLists, directStage, directSharing}
 use Rattle.producer.specs.Producing.{produced, producedReason, producing, outputAfter}
 use Rattle.producer.specs.Bench.{rows}
 
 -- the definitions that computing opens
 unfoldable pub computing : ℕ
-unfolding all any first total tabulate xorBelow subset subsetSum largest degree passing entriesBelow repeats broken termBytes join aRecord stageBytes encode share has isProduct chosen componentFor stands directList directStage directSharing produced producedReason producing outputAfter ones
+unfolding all any first total tabulate xorBelow subset subsetSum largest degree passing entriesBelow repeats broken termBytes join aRecord stageBytes encode share has isProduct chosen componentFor stands directList directLists directStage directSharing produced producedReason producing outputAfter ones
 computing = 0
 
 pub bench-answers : map (λ r. producing (r .m) (r .s) (r .table) (length (r .output))) rows ≡ map (λ r. r .answer) rows

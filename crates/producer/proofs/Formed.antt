@@ -45,8 +45,8 @@ list-size m s f c b h =
   where
     some : (p : ℕ) → stands m s f c b p ≡ true → any (2 ^ m) (λ u. isProduct m s u p) ≡ true
     some p e =
-        let u = any-some (2 ^ m) (λ u. isProduct m s u p && has (subsetSum m f u) b) (unfold stands in and-left _ _ e) in
-        any-at (2 ^ m) (λ u. isProduct m s u p) (u .0) (u .1) (and-left (isProduct m s (u .0) p) (has (subsetSum m f (u .0)) b) (u .2))
+        let u = any-some (2 ^ m) (λ u. isProduct m s u p && has (f u) b) (unfold stands in and-left _ _ e) in
+        any-at (2 ^ m) (λ u. isProduct m s u p) (u .0) (u .1) (and-left (isProduct m s (u .0) p) (has (f (u .0)) b) (u .2))
 
 pub list-fits : (m s : ℕ) (f : ℕ → ℕ) (c b : ℕ) → broken m s 1 ≡ false → ListFits (m * s) (directList m s f c b)
 list-fits m s f c b h = record { size = list-size m s f c b h; terms = unfold directList in passing-terms (m * s) (stands m s f c b) }
@@ -55,10 +55,10 @@ pub stage-fits : (m s : ℕ) (t : List ℕ) → broken m s 1 ≡ false → Table
 stage-fits m s t h fits = record {
   table = unfold directStage in fits;
   count = lists-length m s t;
-  list = λ l k. subst (ListFits (m * s)) (sym (at l k)) (list-fits m s (entry t) (l / m) (l % m) h);
+  list = λ l k. subst (ListFits (m * s)) (sym (at l k)) (list-fits m s (subsetSum m (entry t)) (l / m) (l % m) h);
 }
   where
-    at : (l : ℕ) → l < m * s → getD (directStage m s t .lists) l [] ≡ directList m s (entry t) (l / m) (l % m)
+    at : (l : ℕ) → l < m * s → getD (directStage m s t .lists) l [] ≡ directList m s (subsetSum m (entry t)) (l / m) (l % m)
     at l k =
         let b = bounds m s 1 h in
         ap (λ (i : ℕ). getD (directStage m s t .lists) i []) (sym (div-add-mod' l m))

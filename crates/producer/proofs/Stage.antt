@@ -28,7 +28,7 @@ use Rattle.threshold.specs.Stages.{output, component, Correct, NonComplete}
 use Rattle.threshold.proofs.Sharing.{share-lt, sum-lt, with-own, setting-with}
 use Rattle.threshold.proofs.Output.{output-bit, component-eq}
 use Rattle.threshold.proofs.Dependence.{clear-variables, setting-clear}
-use Rattle.producer.specs.Direct.{has, isProduct, chosen, componentFor, stands, directList, directStage}
+use Rattle.producer.specs.Direct.{has, isProduct, chosen, componentFor, stands, directList, directLists, directStage}
 use Rattle.producer.proofs.Elements.{has-none, bits-eq, share-bit, place-lt}
 use Rattle.producer.proofs.Products.{product-term}
 use Rattle.producer.proofs.Expansion.{expansion, xorBelow-pick, pick-swap}
@@ -37,15 +37,15 @@ use Rattle.producer.proofs.Placement.{unchosen, component-outside, prod
 -- ---- the lists
 
 pub lists-length : (m s : ℕ) (t : List ℕ) → length (directStage m s t .lists) ≡ m * s
-unfolding directStage
-lists-length m s t = tabulate-length (m * s) (λ i. directList m s (entry t) (i / m) (i % m))
+unfolding directStage directLists
+lists-length m s t = tabulate-length (m * s) (λ i. directList m s (subsetSum m (entry t)) (i / m) (i % m))
 
 -- list b of component c
-pub list-at : (m s : ℕ) (t : List ℕ) (c b : ℕ) → c < s → b < m → getD (directStage m s t .lists) (c * m + b) [] ≡ directList m s (entry t) c b
-unfolding directStage
+pub list-at : (m s : ℕ) (t : List ℕ) (c b : ℕ) → c < s → b < m → getD (directStage m s t .lists) (c * m + b) [] ≡ directList m s (subsetSum m (entry t)) c b
+unfolding directStage directLists
 list-at m s t c b lc lb =
-    tabulate-at (m * s) (λ i. directList m s (entry t) (i / m) (i % m)) (c * m + b) [] (place-lt m s c b lc lb)
-    ∙ ap₂ (directList m s (entry t)) (digits-div c lb) (digits-mod c lb)
+    tabulate-at (m * s) (λ i. directList m s (subsetSum m (entry t)) (i / m) (i % m)) (c * m + b) [] (place-lt m s c b lc lb)
+    ∙ ap₂ (directList m s (subsetSum m (entry t))) (digits-div c lb) (digits-mod c lb)
 
 pub list-value : (m s : ℕ) (f : ℕ → ℕ) (c b σ : ℕ)
     → valueAt (directList m s f c b) σ ≡ xorBelow (2 ^ (m * s)) (λ p. pick (subset p σ) (bit (stands m s f c b p)) 0)
@@ -64,7 +64,7 @@ module _ (m s : ℕ) (f : ℕ → ℕ) (low : degree m f < s) (b : ℕ) where
   expanded p = any (2 ^ m) (λ u. isProduct m s u p && has (subsetSum m f u) b)
 
   -- p at σ for each component that it goes to, and for each term that it is a product of
-  once : (p σ : ℕ) → xorBelow s (λ c. pick (subset p σ) (bit (stands m s f c b p)) 0)
+  once : (p σ : ℕ) → xorBelow s (λ c. pick (subset p σ) (bit (stands m s (subsetSum m f) c b p)) 0)
       ≡ xorBelow (2 ^ m) (λ u. pick (has (subsetSum m f u) b) (pick (isProduct m s u p) (pick (subset p σ) 1 0) 0) 0)
   unfolding stands
   once p σ = at (true-or-false (expanded p))
@@ -102,10 +102,10 @@ module _ (m s : ℕ) (f : ℕ → ℕ) (low : degree m f < s) (b : ℕ) where
           no false false q = refl
 
   -- the lists of bit b sum to bit b of the box at the value shared
-  pub bit-correct : (σ : ℕ) → xorBelow s (λ c. valueAt (directList m s f c b) σ) ≡ f (sum m s σ) / 2 ^ b % 2
+  pub bit-correct : (σ : ℕ) → xorBelow s (λ c. valueAt (directList m s (subsetSum m f) c b) σ) ≡ f (sum m s σ) / 2 ^ b % 2
   bit-correct σ =
-      xorBelow-ext s _ _ (λ c l. list-value m s f c b σ)
-      ∙ xorBelow-swap s (2 ^ (m * s)) (λ c p. pick (subset p σ) (bit (stands m s f c b p)) 0)
+      xorBelow-ext s _ _ (λ c l. list-value m s (subsetSum m f) c b σ)
+      ∙ xorBelow-swap s (2 ^ (m * s)) (λ c p. pick (subset p σ) (bit (stands m s (subsetSum m f) c b p)) 0)
       ∙ xorBelow-ext (2 ^ (m * s)) _ _ (λ p l. once p σ)
       ∙ xorBelow-swap (2 ^ (m * s)) (2 ^ m) (λ p u. pick (has (subsetSum m f u) b) (pick (isProduct m s u p) (pick (subset p σ) 1 0) 0) 0)
       ∙ xorBelow-ext (2 ^ m) _ (λ u. pick (subset u (sum m s σ)) (bit (has (subsetSum m f u) b)) 0)
@@ -125,7 +125,7 @@ module _ (m s : ℕ) (f : ℕ → ℕ) (low : degree m f < s) (b : ℕ) where
 
 -- bit b of what component c gives
 pub component-value : (m s : ℕ) (t : List ℕ) (c b σ : ℕ) → c < s → b < m
-    → component m (directStage m s t .lists) c σ / 2 ^ b % 2 ≡ valueAt (directList m s (entry t) c b) σ
+    → component m (directStage m s t .lists) c σ / 2 ^ b % 2 ≡ valueAt (directList m s (subsetSum m (entry t)) c b) σ
 component-value m s t c b σ lc lb =
     share-bit m c (output (directStage m s t .lists) σ) b lb
     ∙ output-bit σ (c * m + b) (directStage m s t .lists)
@@ -137,7 +137,7 @@ direct-correct m s t fits low σ l =
     (xorBelow-lt s m (λ j. component m (directStage m s t .lists) j σ) (λ j k. share-lt m j (output (directStage m s t .lists) σ)))
     (fits .below (sum m s σ) (sum-lt m s σ))
     (λ b k. sym (xorBelow-bit s b (λ j. component m (directStage m s t .lists) j σ))
-    ∙ xorBelow-ext s _ (λ c. valueAt (directList m s (entry t) c b) σ) (λ c h. component-value m s t c b σ h k)
+    ∙ xorBelow-ext s _ (λ c. valueAt (directList m s (subsetSum m (entry t)) c b) σ) (λ c h. component-value m s t c b σ h k)
     ∙ bit-correct m s (entry t) low b σ)
 
 -- ---- non-complete
@@ -157,22 +157,22 @@ unfolding stands
 stands-outside m s f c b p l e =
     unchosen m s p c l
     (component-outside s (chosen m s p) c l
-    (eqb-true _ _ (and-right (any (2 ^ m) (λ u. isProduct m s u p && has (subsetSum m f u) b)) (eqb (componentFor s (chosen m s p)) c) e)))
+    (eqb-true _ _ (and-right (any (2 ^ m) (λ u. isProduct m s u p && has (f u) b)) (eqb (componentFor s (chosen m s p)) c) e)))
 
 pub direct-non-complete : (m s : ℕ) (t : List ℕ) → NonComplete m s (component m (directStage m s t .lists))
 direct-non-complete m s t c l σ lσ v lv =
     component-eq (withShare m c v σ) σ m c (directStage m s t .lists)
     (λ b lb. ap (λ (x : List ℕ). valueAt x (withShare m c v σ)) (at b lb) ∙ same b ∙ ap (λ (x : List ℕ). valueAt x σ) (sym (at b lb)))
   where
-    at : (b : ℕ) → b < m → getD (directStage m s t .lists) (m * c + b) [] ≡ directList m s (entry t) c b
+    at : (b : ℕ) → b < m → getD (directStage m s t .lists) (m * c + b) [] ≡ directList m s (subsetSum m (entry t)) c b
     at b lb = ap (λ (x : ℕ). getD (directStage m s t .lists) (x + b) []) (mul-comm m c) ∙ list-at m s t c b l lb
 
-    term : (b p : ℕ) (x : Bool) → stands m s (entry t) c b p ≡ x → pick (subset p (withShare m c v σ)) (bit x) 0 ≡ pick (subset p σ) (bit x) 0
-    term b p true e = ap (λ (y : Bool). pick y 1 0) (blind m c p σ v lv (stands-outside m s (entry t) c b p l e))
+    term : (b p : ℕ) (x : Bool) → stands m s (subsetSum m (entry t)) c b p ≡ x → pick (subset p (withShare m c v σ)) (bit x) 0 ≡ pick (subset p σ) (bit x) 0
+    term b p true e = ap (λ (y : Bool). pick y 1 0) (blind m c p σ v lv (stands-outside m s (subsetSum m (entry t)) c b p l e))
     term b p false e = pick-zero (subset p (withShare m c v σ)) ∙ sym (pick-zero (subset p σ))
 
-    same : (b : ℕ) → valueAt (directList m s (entry t) c b) (withShare m c v σ) ≡ valueAt (directList m s (entry t) c b) σ
+    same : (b : ℕ) → valueAt (directList m s (subsetSum m (entry t)) c b) (withShare m c v σ) ≡ valueAt (directList m s (subsetSum m (entry t)) c b) σ
     same b =
-        list-value m s (entry t) c b (withShare m c v σ)
-        ∙ xorBelow-ext (2 ^ (m * s)) _ _ (λ p k. term b p (stands m s (entry t) c b p) refl)
-        ∙ sym (list-value m s (entry t) c b σ)
+        list-value m s (subsetSum m (entry t)) c b (withShare m c v σ)
+        ∙ xorBelow-ext (2 ^ (m * s)) _ _ (λ p k. term b p (stands m s (subsetSum m (entry t)) c b p) refl)
+        ∙ sym (list-value m s (subsetSum m (entry t)) c b σ)

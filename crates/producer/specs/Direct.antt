@@ -31,16 +31,20 @@ after s c = pick (eqb (c + 1) s) 0 (c + 1)
 unfoldable pub componentFor : ℕ → ℕ → ℕ
 componentFor s J = pick (eqb J 0) 0 (first s (λ c. not (has J c) && has J (after s c)))
 
--- p stands in the list of bit b of component c: it is a product of a term of output bit b, and goes to component c
+-- With the coefficient words of a box: p stands in the list of bit b of component c. It is a product of a term of output bit b, and goes to component c.
 unfoldable pub stands : ℕ → ℕ → (ℕ → ℕ) → ℕ → ℕ → ℕ → Bool
-stands m s box c b p = any (2 ^ m) (λ u. isProduct m s u p && has (subsetSum m box u) b) && eqb (componentFor s (chosen m s p)) c
+stands m s words c b p = any (2 ^ m) (λ u. isProduct m s u p && has (words u) b) && eqb (componentFor s (chosen m s p)) c
 
 -- these products in rising order
 unfoldable pub directList : ℕ → ℕ → (ℕ → ℕ) → ℕ → ℕ → List ℕ
-directList m s box c b = passing (2 ^ (m * s)) (stands m s box c b)
+directList m s words c b = passing (2 ^ (m * s)) (stands m s words c b)
+
+-- component 1 first, in each component bit 0 first
+unfoldable pub directLists : ℕ → ℕ → (ℕ → ℕ) → List (List ℕ)
+directLists m s words = tabulate (m * s) (λ i. directList m s words (i / m) (i % m))
 
 unfoldable pub directStage : ℕ → ℕ → List ℕ → Stage
-directStage m s t = record { table = t; lists = tabulate (m * s) (λ i. directList m s (entry t) (i / m) (i % m)) }
+directStage m s t = record { table = t; lists = directLists m s (subsetSum m (entry t)) }
 
 -- one stage, with G equal to S
 unfoldable pub directSharing : ℕ → ℕ → List ℕ → Design
