@@ -8,4 +8,6 @@ pub mod Stage
 pub mod Formed
 pub mod Shareable
 pub mod Theorems
+pub mod Inserting
+pub mod Emitting
 pub mod Bench

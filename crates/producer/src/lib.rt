@@ -1,4 +1,5 @@
 // The direct sharing of a box.
+mod expand; // expand.rt: the expansion of terms into products, and the list of one bit of one component
 
 // The number of a refusal, or 0 and the length of the file.
 pub struct Produced {

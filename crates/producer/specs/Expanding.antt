@@ -1,0 +1,60 @@
+-- The expansion as the code makes it: products in the order in which they come, each put into its place in a list.
+use Prim.Native.Nat.{ℕ, zero, suc, _+_, _*_, _^_, _≤_, _<_}
+use mathlib.Core.Path.{_≡_}
+use mathlib.Core.Bool.{false}
+use mathlib.Core.List.{List, [], _∷_, _++_}
+use lib.Dec.{eqb}
+use lib.Bits.{bitOr}
+use lib.ListN.{length, getD, take}
+use Rattle.anf.specs.Tests.{pick}
+use Rattle.anf.specs.Terms.{before}
+use Rattle.design.specs.Limits.{broken}
+use Rattle.design.specs.Bytes.{termBytes}
+use Rattle.design.specs.Encode.{join, aRecord}
+use Rattle.producer.specs.Direct.{has, componentFor}
+
+-- f 0, f 1, .. f (n - 1), joined
+unfoldable pub joined : ℕ → (ℕ → List ℕ) → List ℕ
+joined zero f = []
+joined (suc n) f = joined n f ++ f n
+
+-- With a table over the sets of shares: the product p, for which the shares J are chosen, if it goes to component c.
+unfoldable pub ending : List ℕ → ℕ → ℕ → ℕ → List ℕ
+ending rule c p J = pick (eqb (getD rule J 0) c) (p ∷ []) []
+
+-- the products of the variables of u below `left`, on top of p, for which the shares J are chosen so far, that go to component c
+unfoldable pub emitted : List ℕ → ℕ → ℕ → ℕ → ℕ → ℕ → ℕ → ℕ → List ℕ
+emitted rule m s u c zero p J = ending rule c p J
+emitted rule m s u c (suc v) p J =
+    pick (has u v) (joined s (λ j. emitted rule m s u c v (bitOr p (2 ^ (j * m + v))) (bitOr J (2 ^ j)))) (emitted rule m s u c v p J)
+
+-- t put into its place: of two terms the one that stands before the other stays, and the other goes on
+unfoldable pub inserted : ℕ → List ℕ → List ℕ
+inserted t [] = t ∷ []
+inserted t (x ∷ xs) = pick (before t x) t x ∷ inserted (pick (before t x) x t) xs
+
+unfoldable pub insertedAll : List ℕ → List ℕ → List ℕ
+insertedAll [] l = l
+insertedAll (t ∷ ts) l = insertedAll ts (inserted t l)
+
+-- a table over the sets of s shares that says where a product goes
+pub record Follows (s : ℕ) (rule : List ℕ) : Type 0 where
+  pub size : length rule ≡ 2 ^ s
+  pub at : (J : ℕ) → J < 2 ^ s → getD rule J 0 ≡ componentFor s J
+
+-- a list holds the terms ts in its first n places
+pub record Holds (list : List ℕ) (n : ℕ) (ts : List ℕ) : Type 0 where
+  pub count : n ≡ length ts
+  pub terms : take n list ≡ ts
+
+-- what the expansion of a term asks for
+pub record Expands (rule : List ℕ) (m s left J size n : ℕ) (ts : List ℕ) : Type 0 where
+  pub limits : broken m s 1 ≡ false
+  pub sets : length rule ≡ 2 ^ s
+  pub within : left ≤ m
+  pub chosen : J < 2 ^ s
+  pub room : n + length ts ≤ size
+
+-- the records of lists
+abbrev pub listRecord : List ℕ → List ℕ
+listRecord ts = aRecord 3 (termBytes ts)

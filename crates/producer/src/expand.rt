@@ -1,0 +1,115 @@
+// The expansion of terms into products, and the list of one bit of one component.
+use anf::points;
+use design::stands_before;
+ghost use mathlib.Core.Path.{_≡_};
+ghost use mathlib.Core.Bool.{false};
+ghost use mathlib.Core.List.{[]};
+ghost use Prim.Native.Nat.{_+_, _^_, _<_, _≤_};
+ghost use lib.Bits.{bitOr};
+ghost use lib.ListN.{length, getD, set, take};
+ghost use Rattle.anf.specs.Tests.{pick};
+ghost use Rattle.anf.specs.Terms.{before};
+ghost use Rattle.design.specs.Limits.{broken};
+ghost use Rattle.producer.specs.Direct.{directList};
+ghost use Rattle.producer.specs.Direct.{has as hasElement};
+ghost use Rattle.producer.specs.Expanding.{ending, emitted, inserted, insertedAll, Follows, Expands};
+
+// Whether the set x has the element i.
+fn has(x: u32, i: usize) -> bool
+    requires { ⌜ i < 32 ⌝ }
+    ensures { λ r. ⌜ r ≡ hasElement x i ⌝ }
+{
+    (x >> i) % 2 == 1
+}
+
+// The set x with the element i too.
+fn with(x: u32, i: usize) -> u32
+    requires { ⌜ i < 32 ⌝ }
+    ensures { λ r. ⌜ r ≡ bitOr x (2 ^ i) ⌝ }
+{
+    x | (1 << i)
+}
+
+// The component that the rule names for the chosen shares.
+fn component(rule: &[u8], chosen: u32) -> usize
+    requires { ⌜ chosen < length (now rule) ⌝ }
+    ensures { λ r. ⌜ r ≡ getD (now (rule .entry)) chosen 0 ⌝ }
+{
+    rule[chosen as usize] as usize
+}
+
+// Leaves at i the one of t and the term there that stands before the other, and answers the other.
+fn settle(list: &mut [u32], i: usize, t: u32) -> u32
+    requires { ⌜ i < length (now list) ⌝ }
+    ensures { λ r. ⌜ r ≡ pick (before t (getD (now (list .entry)) i 0)) (getD (now (list .entry)) i 0) t ⌝ }
+    ensures { λ _. ⌜ now (list .exit) ≡ set (now (list .entry)) i (pick (before t (getD (now (list .entry)) i 0)) t (getD (now (list .entry)) i 0)) ⌝ }
+{
+    let x = list[i];
+    if stands_before(t, x) {
+        list[i] = t;
+        return x;
+    }
+    t
+}
+
+// Puts t into its place among the first n terms.
+fn place(list: &mut [u32], n: usize, t: u32)
+    requires { ⌜ n < length (now list) ⌝ }
+    ensures { λ _. ⌜ take (n + 1) (now (list .exit)) ≡ inserted t (take n (now (list .entry))) ⌝ }
+{
+    let mut carry = t;
+    let mut i: usize = 0;
+    while i < n {
+        carry = settle(list, i, carry);
+        i += 1;
+    }
+    list[n] = carry;
+}
+
+// Puts the product p into its place among the first n terms, if it goes to the component `to`, and answers how many terms there are then.
+fn emit(rule: &[u8], to: usize, p: u32, chosen: u32, list: &mut [u32], n: usize) -> usize
+    requires { ⌜ (chosen < length (now rule)) × (n + length (ending (now rule) to p chosen) ≤ length (now list)) ⌝ }
+    ensures { λ r. ⌜ r ≡ n + length (ending (now (rule .entry)) to p chosen) ⌝ }
+    ensures { λ r. ⌜ take r (now (list .exit)) ≡ insertedAll (ending (now (rule .entry)) to p chosen) (take n (now (list .entry))) ⌝ }
+{
+    if component(rule, chosen) != to {
+        return n;
+    }
+    place(list, n, p);
+    n + 1
+}
+
+// The same of the products of the variables of u below `left`, on top of p.
+fn expand(
+    rule: &[u8],
+    m: usize,
+    s: usize,
+    u: u32,
+    to: usize,
+    left: usize,
+    p: u32,
+    chosen: u32,
+    list: &mut [u32],
+    n: usize,
+) -> usize
+    requires { ⌜ Expands (now rule) m s left chosen (length (now list)) n (emitted (now rule) m s u to left p chosen) ⌝ }
+    ensures { λ r. ⌜ r ≡ n + length (emitted (now (rule .entry)) m s u to left p chosen) ⌝ }
+    ensures { λ r. ⌜ take r (now (list .exit)) ≡ insertedAll (emitted (now (rule .entry)) m s u to left p chosen) (take n (now (list .entry))) ⌝ }
+{
+    if left == 0 {
+        return emit(rule, to, p, chosen, list, n);
+    }
+    let v = left - 1;
+    if !has(u, v) {
+        return expand(rule, m, s, u, to, v, p, chosen, list, n);
+    }
+    let mut count = n;
+    let mut j: usize = 0;
+    while j < s {
+        let q = with(p, j * m + v);
+        let with_j = with(chosen, j);
+        count = expand(rule, m, s, u, to, v, q, with_j, list, count);
+        j += 1;
+    }
+    count
+}
