@@ -10,4 +10,6 @@ pub mod Shareable
 pub mod Theorems
 pub mod Inserting
 pub mod Emitting
+pub mod Choosing
+pub mod Gathering
 pub mod Bench
