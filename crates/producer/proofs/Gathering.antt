@@ -5,25 +5,27 @@ use mathlib.Core.Logic.{_⊎_, inl, inr, ⊎-elim, _≢_}
 use mathlib.Core.Bool.{Bool, true, false, not, _&&_, _||_}
 use mathlib.Core.List.{List, [], _∷_, _++_, append-nil}
 use Prim.Native.Nat.{ℕ, zero, suc, _+_, _-_, _*_, _/_, _%_, _^_, _≤_, _<_}
-use native.Mathlib.Nat.{not-suc-le-zero}
+use native.Mathlib.Nat.{not-suc-le-zero, zero-add}
 use native.Mathlib.Decide.{ℕ-discrete}
 use native.Mathlib.Omega.{arith}
 use lib.Pow.{pow-pos}
-use lib.Dec.{eqb}
+use lib.Dec.{eqb, leb}
 use lib.Bits.{bitOr}
-use lib.ListN.{length, getD}
-use borrow.Author.Tests.{eqb-true, eq-eqb, ne-eqb, lt-ltb, le-ltb}
-use Rattle.anf.specs.Tests.{pick, any}
+use lib.ListN.{length, getD, take, drop}
+use borrow.Author.Tests.{eqb-true, eq-eqb, ne-eqb, lt-ltb, le-ltb, le-leb}
+use Rattle.anf.specs.Tests.{pick, implies, all, any, first, tabulate}
 use Rattle.anf.specs.Terms.{before, passing}
-use Rattle.anf.proofs.Testing.{true-or-false, not-true-false, clash, below, pick-true, pick-false, and-intro, and-left, and-right, or-cases, or-left, or-none, any-at, any-some, any-congr}
+use Rattle.anf.proofs.Testing.{true-or-false, not-true-false, clash, below, pick-true, pick-false, and-intro, and-left, and-right, or-cases, or-left, or-none, any-at, any-some, all-at, implies-at}
 use Rattle.anf.proofs.Terms.{Rising}
 use Rattle.anf.proofs.Passing.{passing-rising, passing-congr}
+use Rattle.design.proofs.Limits.{bounds}
 use Rattle.producer.specs.Direct.{has, isProduct, chosen, componentFor, stands, directList}
-use Rattle.producer.specs.Expanding.{joined, ending, emitted, inserted, insertedAll, Follows}
+use Rattle.producer.specs.Expanding.{joined, ending, emitted, inserted, insertedAll, brought, ruleTables, Follows, Expands, Gathers}
 use Rattle.producer.proofs.Elements.{has-none}
 use Rattle.producer.proofs.Products.{product-term}
 use Rattle.producer.proofs.Placement.{chosen-lt}
-use Rattle.producer.proofs.Emitting.{insertedAll-append, inserted-one, inserted-none, ending-here, ending-other, through}
+use Rattle.producer.proofs.Formed.{list-size}
+use Rattle.producer.proofs.Emitting.{joined-within, insertedAll-append, inserted-one, inserted-none, ending-here, ending-other, through}
 use Rattle.producer.proofs.Choosing.{chosen-none, chosen-with, extends, extends-none, extends-all, extends-skip, extends-each, extends-apart, Clean, clean-with, with-lt}
 
 -- ---- a term in its place
@@ -191,23 +193,22 @@ module _ (rule : List ℕ) (m s u c : ℕ) (some : 0 < m) (follows : Follows s r
 -- ---- the products of all terms of an output bit
 
 module _ (rule : List ℕ) (m s : ℕ) (some : 0 < m) (follows : Follows s rule) (words : ℕ → ℕ) (c b : ℕ) where
-  -- what the term u brings
-  abbrev pub brought : ℕ → List ℕ
-  brought u = pick (has (words u) b) (emitted rule m s u c m 0 0) []
+  abbrev pub brings : ℕ → List ℕ
+  brings u = brought rule m s c b (words u) u
 
   abbrev so-far : ℕ → ℕ → Bool
   so-far n q = any n (λ u. isProduct m s u q && has (words u) b) && eqb (componentFor s (chosen m s q)) c
 
-  gathered-below : (n : ℕ) → n ≤ 2 ^ m → insertedAll (joined n brought) [] ≡ passing (2 ^ (m * s)) (so-far n)
+  gathered-below : (n : ℕ) → n ≤ 2 ^ m → insertedAll (joined n brings) [] ≡ passing (2 ^ (m * s)) (so-far n)
   unfolding joined any
   gathered-below zero h = inserted-none [] ∙ sym (passing-none (2 ^ (m * s)))
   gathered-below (suc n) h =
-      insertedAll-append (joined n brought) (brought n) []
-      ∙ ap (insertedAll (brought n)) (gathered-below n (omega arith))
+      insertedAll-append (joined n brings) (brings n) []
+      ∙ ap (insertedAll (brings n)) (gathered-below n (omega arith))
       ∙ at (true-or-false (has (words n) b))
     where
       at : (has (words n) b ≡ true) ⊎ (has (words n) b ≡ false)
-          → insertedAll (brought n) (passing (2 ^ (m * s)) (so-far n))
+          → insertedAll (brings n) (passing (2 ^ (m * s)) (so-far n))
           ≡ passing (2 ^ (m * s)) (λ q. (any n (λ u. isProduct m s u q && has (words u) b) || (isProduct m s n q && has (words n) b)) && eqb (componentFor s (chosen m s q)) c)
       at (inl t) =
           ap (λ (ts : List ℕ). insertedAll ts (passing (2 ^ (m * s)) (so-far n))) (pick-true (has (words n) b) _ [] t ∙ ap (emitted rule m s n c m 0) (sym (chosen-none m s)))
@@ -247,6 +248,69 @@ module _ (rule : List ℕ) (m s : ℕ) (some : 0 < m) (follows : Follows s rule)
           no false true = refl
           no false false = refl
 
-  pub gathered : insertedAll (joined (2 ^ m) brought) [] ≡ directList m s words c b
+  pub gathered : insertedAll (joined (2 ^ m) brings) [] ≡ directList m s words c b
   unfolding directList stands
   gathered = gathered-below (2 ^ m) (omega arith)
+
+-- ---- how many
+
+inserted-length : (t : ℕ) (l : List ℕ) → length (inserted t l) ≡ suc (length l)
+unfolding inserted
+inserted-length t [] = refl
+inserted-length t (x ∷ l) = ap suc (inserted-length (pick (before t x) x t) l)
+
+insertedAll-length : (ts l : List ℕ) → length (insertedAll ts l) ≡ length ts + length l
+unfolding insertedAll
+insertedAll-length [] l = sym (zero-add (length l))
+insertedAll-length (t ∷ ts) l = insertedAll-length ts (inserted t l) ∙ omega (arith, inserted-length t l)
+
+-- ---- as the loop over the terms has it
+
+module _ (rule : List ℕ) (m s : ℕ) (words : ℕ → ℕ) (size wide : ℕ) (g : Gathers rule m s wide size) (c b : ℕ) where
+  abbrev pub each : ℕ → List ℕ
+  each u = brought rule m s c b (words u) u
+
+  some-variable : 0 < m
+  some-variable = omega (arith, bounds m s 1 (g .limits) .m-low)
+
+  whole : insertedAll (joined (2 ^ m) each) [] ≡ directList m s words c b
+  whole = gathered rule m s some-variable (g .follows) words c b
+
+  pub whole-length : length (joined (2 ^ m) each) ≡ length (directList m s words c b)
+  whole-length = omega (arith, insertedAll-length (joined (2 ^ m) each) [], ap length whole)
+
+  pub few-terms : length (directList m s words c b) ≤ 4096
+  few-terms = list-size m s words c b (g .limits)
+
+  pub term-asks : (u count : ℕ) → u < 2 ^ m → count ≡ length (joined u each) → Expands rule m s m 0 size count (each u)
+  term-asks u count l e = record {
+    limits = g .limits;
+    sets = g .follows .size;
+    within = omega arith;
+    chosen = pow-pos s;
+    room = omega (arith, joined-within (2 ^ m) u each l, whole-length, few-terms, g .room);
+  }
+
+  pub all-terms : (u count : ℕ) (l : List ℕ) → u ≡ 2 ^ m → count ≡ length (joined u each) → l ≡ insertedAll (joined u each) []
+      → (count ≡ length (directList m s words c b)) × (l ≡ directList m s words c b)
+  all-terms u count l e ce le = (
+    ce ∙ ap (λ (k : ℕ). length (joined k each)) e ∙ whole-length,
+    le ∙ ap (λ (k : ℕ). insertedAll (joined k each) []) e ∙ whole,
+  )
+
+-- ---- the tables of the rule
+
+-- tested for each s below 6 and each set, by computing
+tables-tested : all 6 (λ s. implies (leb 3 s) (eqb (length (take (2 ^ s) (drop (2 ^ s - 8) ruleTables))) (2 ^ s)
+    && all (2 ^ s) (λ J. eqb (getD (take (2 ^ s) (drop (2 ^ s - 8) ruleTables)) J 0) (componentFor s J)))) ≡ true
+unfolding all ruleTables componentFor first any has tabulate
+tables-tested = refl
+
+-- the part of them for s shares
+pub rule-follows : (s : ℕ) → 3 ≤ s → s ≤ 5 → Follows s (take (2 ^ s) (drop (2 ^ s - 8) ruleTables))
+rule-follows s a b =
+    let t = implies-at (leb 3 s) _ (all-at 6 _ tables-tested s (omega arith)) (le-leb 3 s a) in
+    record {
+      size = eqb-true _ _ (and-left (eqb (length (take (2 ^ s) (drop (2 ^ s - 8) ruleTables))) (2 ^ s)) _ t);
+      at = λ J l. eqb-true _ _ (all-at (2 ^ s) _ (and-right (eqb (length (take (2 ^ s) (drop (2 ^ s - 8) ruleTables))) (2 ^ s)) _ t) J l);
+    }

@@ -2,15 +2,15 @@
 use Prim.Native.Nat.{ℕ, zero, suc, _+_, _*_, _^_, _≤_, _<_}
 use mathlib.Core.Path.{_≡_}
 use mathlib.Core.Bool.{false}
-use mathlib.Core.List.{List, [], _∷_, _++_}
+use mathlib.Core.List.{List, [], _∷_, _++_, map}
 use lib.Dec.{eqb}
 use lib.Bits.{bitOr}
-use lib.ListN.{length, getD, take}
-use Rattle.anf.specs.Tests.{pick}
+use lib.ListN.{length, getD}
+use Rattle.anf.specs.Tests.{pick, tabulate}
 use Rattle.anf.specs.Terms.{before}
 use Rattle.design.specs.Limits.{broken}
 use Rattle.design.specs.Bytes.{termBytes}
-use Rattle.design.specs.Encode.{join, aRecord}
+use Rattle.design.specs.Encode.{join, aRecord, encode}
 use Rattle.producer.specs.Direct.{has, componentFor}
 
 -- f 0, f 1, .. f (n - 1), joined
@@ -37,15 +37,18 @@ unfoldable pub insertedAll : List ℕ → List ℕ → List ℕ
 insertedAll [] l = l
 insertedAll (t ∷ ts) l = insertedAll ts (inserted t l)
 
+-- what the term u brings to the list of bit b of component c, where its coefficient word has bit b
+abbrev pub brought : List ℕ → ℕ → ℕ → ℕ → ℕ → ℕ → ℕ → List ℕ
+brought rule m s c b word u = pick (has word b) (emitted rule m s u c m 0 0) []
+
+-- the tables of the rule for 3, 4 and 5 shares, one behind the other, each over its sets J
+unfoldable pub ruleTables : List ℕ
+ruleTables = tabulate 8 (componentFor 3) ++ (tabulate 16 (componentFor 4) ++ tabulate 32 (componentFor 5))
+
 -- a table over the sets of s shares that says where a product goes
 pub record Follows (s : ℕ) (rule : List ℕ) : Type 0 where
   pub size : length rule ≡ 2 ^ s
   pub at : (J : ℕ) → J < 2 ^ s → getD rule J 0 ≡ componentFor s J
-
--- a list holds the terms ts in its first n places
-pub record Holds (list : List ℕ) (n : ℕ) (ts : List ℕ) : Type 0 where
-  pub count : n ≡ length ts
-  pub terms : take n list ≡ ts
 
 -- what the expansion of a term asks for
 pub record Expands (rule : List ℕ) (m s left J size n : ℕ) (ts : List ℕ) : Type 0 where
@@ -55,6 +58,21 @@ pub record Expands (rule : List ℕ) (m s left J size n : ℕ) (ts : List ℕ) :
   pub chosen : J < 2 ^ s
   pub room : n + length ts ≤ size
 
--- the records of lists
+-- what gathering a list asks for: a rule, 2^m words, and room for the longest list
+pub record Gathers (rule : List ℕ) (m s words size : ℕ) : Type 0 where
+  pub limits : broken m s 1 ≡ false
+  pub follows : Follows s rule
+  pub words-all : 2 ^ m ≤ words
+  pub room : 4096 ≤ size
+
+-- the record of a list
 abbrev pub listRecord : List ℕ → List ℕ
 listRecord ts = aRecord 3 (termBytes ts)
+
+-- the records of these lists
+unfoldable pub listRecords : List (List ℕ) → List ℕ
+listRecords ls = join (map listRecord ls)
+
+-- the file of one stage with G equal to S
+unfoldable pub oneStageFile : ℕ → ℕ → List ℕ → List (List ℕ) → List ℕ
+oneStageFile m s t ls = encode (record { m = m; s = s; k = 1; box = t; stages = record { table = t; lists = ls } ∷ [] })

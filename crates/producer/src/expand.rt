@@ -12,7 +12,74 @@ ghost use Rattle.anf.specs.Terms.{before};
 ghost use Rattle.design.specs.Limits.{broken};
 ghost use Rattle.producer.specs.Direct.{directList};
 ghost use Rattle.producer.specs.Direct.{has as hasElement};
-ghost use Rattle.producer.specs.Expanding.{ending, emitted, inserted, insertedAll, Follows, Expands};
+ghost use Rattle.producer.specs.Expanding.{ending, emitted, inserted, insertedAll, brought, ruleTables, Expands, Gathers};
+
+// The component to which a product goes, by the set of its chosen shares: for 3 shares, for 4, for 5. Of all shares there is none.
+const RULES: [u8; 56] = [
+    0,
+    2,
+    0,
+    2,
+    1,
+    1,
+    0,
+    3,
+    0,
+    3,
+    0,
+    3,
+    1,
+    1,
+    0,
+    3,
+    2,
+    2,
+    0,
+    2,
+    1,
+    1,
+    0,
+    4,
+    0,
+    4,
+    0,
+    4,
+    1,
+    1,
+    0,
+    4,
+    2,
+    2,
+    0,
+    2,
+    1,
+    1,
+    0,
+    4,
+    3,
+    3,
+    0,
+    3,
+    1,
+    1,
+    0,
+    3,
+    2,
+    2,
+    0,
+    2,
+    1,
+    1,
+    0,
+    5,
+];
+
+// The tables of the rule for 3, 4 and 5 shares.
+pub fn rules() -> [u8; 56]
+    ensures { λ r. ⌜ r ≡ ruleTables ⌝ }
+{
+    RULES
+}
 
 // Whether the set x has the element i.
 fn has(x: u32, i: usize) -> bool
@@ -110,6 +177,52 @@ fn expand(
         let with_j = with(chosen, j);
         count = expand(rule, m, s, u, to, v, q, with_j, list, count);
         j += 1;
+    }
+    count
+}
+
+// What the term u adds to the list of bit b, where its coefficient word has that bit.
+fn add_term(
+    rule: &[u8],
+    m: usize,
+    s: usize,
+    to: usize,
+    b: usize,
+    word: u8,
+    u: u32,
+    list: &mut [u32],
+    n: usize,
+) -> usize
+    requires { ⌜ (b < 32) × Expands (now rule) m s m 0 (length (now list)) n (brought (now rule) m s to b word u) ⌝ }
+    ensures { λ r. ⌜ r ≡ n + length (brought (now (rule .entry)) m s to b word u) ⌝ }
+    ensures { λ r. ⌜ take r (now (list .exit)) ≡ insertedAll (brought (now (rule .entry)) m s to b word u) (take n (now (list .entry))) ⌝ }
+{
+    if !has(word as u32, b) {
+        return n;
+    }
+    expand(rule, m, s, u, to, m, 0, 0, list, n)
+}
+
+// Gathers the list of bit b of the component `to` from the coefficient words, and answers how many terms it has.
+pub fn gather(
+    rule: &[u8],
+    m: usize,
+    s: usize,
+    words: &[u8],
+    to: usize,
+    b: usize,
+    list: &mut [u32],
+) -> usize
+    requires { ⌜ (b < m) × Gathers (now rule) m s (length (now words)) (length (now list)) ⌝ }
+    ensures { λ r. ⌜ (r ≡ length (directList m s (λ u. getD (now (words .entry)) u 0) to b)) × (r ≤ 4096) ⌝ }
+    ensures { λ r. ⌜ take r (now (list .exit)) ≡ directList m s (λ u. getD (now (words .entry)) u 0) to b ⌝ }
+{
+    let n = points(m);
+    let mut count: usize = 0;
+    let mut u: usize = 0;
+    while u < n {
+        count = add_term(rule, m, s, to, b, words[u], u as u32, list, count);
+        u += 1;
     }
     count
 }
