@@ -15,6 +15,9 @@ pub use terms::count;
 pub use terms::stands_before;
 pub use terms::term;
 pub use terms::value;
+pub use writer::put_bytes;
+pub use writer::put_head;
+pub use writer::put_term;
 ghost use mathlib.Core.Path.{_≡_};
 ghost use Rattle.design.specs.Layout.{checked};
 
