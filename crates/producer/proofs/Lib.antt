@@ -12,4 +12,5 @@ pub mod Inserting
 pub mod Emitting
 pub mod Choosing
 pub mod Gathering
+pub mod Writing
 pub mod Bench
