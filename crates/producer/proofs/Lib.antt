@@ -13,4 +13,5 @@ pub mod Emitting
 pub mod Choosing
 pub mod Gathering
 pub mod Writing
+pub mod Answering
 pub mod Bench

@@ -3,15 +3,19 @@ use Prim.Native.Nat.{ℕ, zero, suc, _+_, _*_, _^_, _≤_, _<_}
 use mathlib.Core.Path.{_≡_}
 use mathlib.Core.Bool.{false}
 use mathlib.Core.List.{List, [], _∷_, _++_, map}
-use lib.Dec.{eqb}
+use lib.Dec.{eqb, ltb}
 use lib.Bits.{bitOr}
 use lib.ListN.{length, getD}
 use Rattle.anf.specs.Tests.{pick, tabulate}
+use Rattle.anf.specs.NormalForm.{subsetSum}
 use Rattle.anf.specs.Terms.{before}
 use Rattle.design.specs.Limits.{broken}
 use Rattle.design.specs.Bytes.{termBytes}
 use Rattle.design.specs.Encode.{join, aRecord, encode}
+use Rattle.design.specs.Design.{entry}
 use Rattle.producer.specs.Direct.{has, componentFor}
+use Rattle.producer.specs.Producing.{produced, producedReason}
+use Rattle.producer.specs.declared.Produced.{Produced}
 
 -- f 0, f 1, .. f (n - 1), joined
 unfoldable pub joined : ℕ → (ℕ → List ℕ) → List ℕ
@@ -76,3 +80,15 @@ listRecords ls = join (map listRecord ls)
 -- the file of one stage with G equal to S
 unfoldable pub oneStageFile : ℕ → ℕ → List ℕ → List (List ℕ) → List ℕ
 oneStageFile m s t ls = encode (record { m = m; s = s; k = 1; box = t; stages = record { table = t; lists = ls } ∷ [] })
+
+-- every test but the last has passed, and words are the coefficient words of the table
+pub record Ready (m s : ℕ) (t words : List ℕ) (room : ℕ) : Type 0 where
+  pub limits : broken m s 1 ≡ false
+  pub size : length t ≡ 2 ^ m
+  pub passed : producedReason m s t room ≡ pick (ltb room (length (produced m s t))) 17 0
+  pub words-all : 2 ^ m ≤ length words
+  pub coefficients : (u : ℕ) → u < 2 ^ m → getD words u 0 ≡ subsetSum m (entry t) u
+
+-- the answer of a refusal
+abbrev pub refused : ℕ → Produced
+refused r = record { reason = r; length = 0 }

@@ -2,8 +2,88 @@
 mod expand; // expand.rt: the expansion of terms into products, and the list of one bit of one component
 mod file; // file.rt: the file's length, and writing it
 
+use anf::entries_below;
+use anf::points;
+use anf::repeats;
+use anf::to_coefficients;
+use anf::words_degree;
+use design::Checked;
+use design::Head;
+use expand::rules;
+use file::lists_size;
+use file::put_file;
+ghost use mathlib.Core.Path.{_≡_};
+ghost use mathlib.Core.Bool.{false};
+ghost use lib.ListN.{length};
+ghost use Rattle.design.specs.Limits.{broken};
+ghost use Rattle.producer.specs.Producing.{producing, outputAfter};
+ghost use Rattle.producer.specs.Expanding.{Ready, refused};
+
 // The number of a refusal, or 0 and the length of the file.
 pub struct Produced {
     pub reason: usize,
     pub length: usize,
+}
+
+fn refusal(reason: usize) -> Produced
+    ensures { λ r. ⌜ r ≡ refused reason ⌝ }
+{
+    Produced { reason, length: 0 }
+}
+
+// Writes the file of the direct sharing, if it fits. It is known to fit before a byte is written.
+fn share(m: usize, s: usize, table: &[u8], words: &[u8], output: &mut [u8]) -> Produced
+    requires { ⌜ Ready m s (now table) (now words) (length (now output)) ⌝ }
+    ensures { λ r. ⌜ r ≡ producing m s (now (table .entry)) (length (now (output .entry))) ⌝ }
+    ensures { λ _. ⌜ now (output .exit) ≡ outputAfter m s (now (table .entry)) (now (output .entry)) ⌝ }
+{
+    let sets = points(s);
+    let tables = rules();
+    let rule = &tables[sets - 8..sets - 8 + sets];
+    let mut list = [0u32; 4096];
+    let size = 19 + 2 * table.len() + lists_size(rule, m, s, words, &mut list);
+    if output.len() < size {
+        return refusal(17);
+    }
+    put_file(rule, m, s, table, words, &mut list, output);
+    Produced {
+        reason: 0,
+        length: size,
+    }
+}
+
+// The tests of the table, for m and s within the limits.
+fn produce_within(m: usize, s: usize, table: &[u8], output: &mut [u8]) -> Produced
+    requires { ⌜ broken m s 1 ≡ false ⌝ }
+    ensures { λ r. ⌜ r ≡ producing m s (now (table .entry)) (length (now (output .entry))) ⌝ }
+    ensures { λ _. ⌜ now (output .exit) ≡ outputAfter m s (now (table .entry)) (now (output .entry)) ⌝ }
+{
+    let n = points(m);
+    if table.len() != n {
+        return refusal(3);
+    }
+    if !entries_below(table, n) {
+        return refusal(5);
+    }
+    if repeats(table) {
+        return refusal(8);
+    }
+    let mut words = [0u8; 64];
+    to_coefficients(m, table, &mut words);
+    let degree = words_degree(&words[0..n]);
+    if s <= degree as usize {
+        return refusal(16);
+    }
+    share(m, s, table, &words, output)
+}
+
+// Writes the direct sharing of a permutation table of 2^m entries of m bits, with s shares, as a design file.
+pub fn produce(m: usize, s: usize, table: &[u8], output: &mut [u8]) -> Produced
+    ensures { λ r. ⌜ r ≡ producing m s (now (table .entry)) (length (now (output .entry))) ⌝ }
+    ensures { λ _. ⌜ now (output .exit) ≡ outputAfter m s (now (table .entry)) (now (output .entry)) ⌝ }
+{
+    match Head::new(m, s, 1) {
+        Checked::Good(_) => produce_within(m, s, table, output),
+        Checked::Beyond => refusal(4),
+    }
 }
