@@ -24,7 +24,8 @@ use Rattle.checker.specs.Verdict.{answer, workspaceFor, chainIsBox, firs
 use Rattle.checker.specs.Accepted.{Permutation, ChainIsBox, TablePermutes, CorrectAt, IgnoresOwn, NonCompleteAt, UniformAt, Sound, Accepted, Ready, Passed, Explained, refusal, fault-8, fault-9, fault-10, fault-11, fault-12, fault-13, fault-14, accepted}
 use Rattle.checker.specs.declared.Verdict.{Verdict}
 use Rattle.checker.proofs.Steps.{readsOwnAt, stageAnswer, stagesFrom, stages-next, stages-end, stages-all}
-use Rattle.checker.proofs.Read.{reads-formed, refuses-one}
+use Rattle.design.proofs.Theorems.{read-formed}
+use Rattle.design.proofs.Reasons.{reason-range}
 use Rattle.checker.proofs.Repeating.{first-repeats, none-repeats, none-permutes}
 use Rattle.checker.proofs.Permutations.{repeats-permutation, permutation-repeats, repeats-none, chain-tables}
 
@@ -97,13 +98,13 @@ explained f n = go (reading f) refl
   where
     go : (r : Reading) → reading f ≡ r → Explained f n (judgedReading r n)
     go (refused r p) e = refusal r p e
-    go (means d) e = judged-explained f n d (reads-formed f d e) e
+    go (means d) e = judged-explained f n d (read-formed f d e) e
 
 passed-accepted : (f : List ℕ) (n : ℕ) (d : Design) → Passed f n d (d .k) → Accepted f n d
 passed-accepted f n d p = record { reads = p .ready .reads; box = p .ready .box; room = p .ready .room; chain = p .chain; stages = p .before }
 
 accepts : (f : List ℕ) (n : ℕ) (v : Verdict) → Explained f n v → v .reason ≡ 0 → (d : Design) × (v ≡ answer 0 (d .k) 0) × Accepted f n d
-accepts f n v (refusal r p e) z = absurd (omega (arith, refuses-one f r p e))
+accepts f n v (refusal r p e) z = absurd (omega (arith, reason-range f r p e))
 accepts f n v (fault-8 d e h) z = absurd (omega arith)
 accepts f n v (fault-9 d e b h) z = absurd (omega arith)
 accepts f n v (fault-10 d e h) z = absurd (omega arith)
@@ -121,7 +122,7 @@ module _ (f : List ℕ) (n : ℕ) (d : Design) (a : Accepted f n d) where
   -- the tables of the chain are permutations, as S is one
   tables : (t : ℕ) → t < d .k → TablePermutes d t
   tables t l =
-      let wf = reads-formed f d (a .reads) in
+      let wf = read-formed f d (a .reads) in
       chain-tables (2 ^ d .m) (d .stages) (λ i k. wf .stage i (omega (arith, wf .count)) .table .below)
       (λ x y lx ly e. a .box x y lx ly (sym (a .chain x lx) ∙ e ∙ a .chain y ly)) t (omega (arith, wf .count))
 

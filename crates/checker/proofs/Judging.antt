@@ -48,7 +48,11 @@ names-none group (t ∷ ts) h = or-none (h 0 (omega arith)) (names-none group ts
 
 -- ---- what the loops have found
 
--- the output at the sharing σ sums to what it should
+-- the output of the lists at the sharing σ sums to what the table makes of its sum
+abbrev pub agreesAt : ℕ → ℕ → List (List ℕ) → List ℕ → ℕ → Bool
+agreesAt m s ls tb σ = eqb (sum m s (output ls σ)) (getD tb (sum m s σ) 0)
+
+-- the same of stage t
 abbrev pub rightAt : List ℕ → Layout → ℕ → ℕ → Bool
 rightAt f l t σ =
     eqb (sum (l .head .m) (l .head .s) (output (stageOf (meaning f) t .lists) σ)) (entry (stageOf (meaning f) t .table) (sum (l .head .m) (l .head .s) σ))
@@ -76,18 +80,20 @@ module _ (f : List ℕ) (l : Layout) (d : Describes f l) (t : ℕ) (h : t < l .h
 
   -- ---- correct
 
-  pub right-at : (x y : ℕ) (b : List ℕ) (r : Bool) → b ≡ stageOf (meaning f) t .table → y ≡ output (stageOf (meaning f) t .lists) x
-      → r ≡ eqb (sum (l .head .m) (l .head .s) y) (getD b (sum (l .head .m) (l .head .s) x) 0) → rightAt f l t x ≡ r
-  right-at x y b r e o q =
-      sym (q ∙ ap₂ (λ (v : ℕ) (c : List ℕ). eqb (sum (l .head .m) (l .head .s) v) (getD c (sum (l .head .m) (l .head .s) x) 0)) o e)
-
-  pub wrong-stage : (x : ℕ) → x < 2 ^ (l .head .m * l .head .s) → rightAt f l t x ≡ false → correct (l .head .m) (l .head .s) (stageOf (meaning f) t) ≡ false
+  wrong-stage : (x : ℕ) → x < 2 ^ (l .head .m * l .head .s) → rightAt f l t x ≡ false → correct (l .head .m) (l .head .s) (stageOf (meaning f) t) ≡ false
   unfolding correct
   wrong-stage x k e = all-fails (2 ^ (l .head .m * l .head .s)) (rightAt f l t) x k e
 
-  pub right-stage : (x : ℕ) → x ≡ 2 ^ (l .head .m * l .head .s) → all x (rightAt f l t) ≡ true → correct (l .head .m) (l .head .s) (stageOf (meaning f) t) ≡ true
+  right-stage : (x : ℕ) → x ≡ 2 ^ (l .head .m * l .head .s) → all x (rightAt f l t) ≡ true → correct (l .head .m) (l .head .s) (stageOf (meaning f) t) ≡ true
   unfolding correct
   right-stage x e a = rw e at a
+
+  module _ (ls : List (List ℕ)) (b : List ℕ) (p : ls ≡ stageOf (meaning f) t .lists) (e : b ≡ stageOf (meaning f) t .table) where
+    pub wrong-lists : (x : ℕ) → x < 2 ^ (l .head .m * l .head .s) → agreesAt (l .head .m) (l .head .s) ls b x ≡ false → correct (l .head .m) (l .head .s) (stageOf (meaning f) t) ≡ false
+    wrong-lists x k q = wrong-stage x k (sym (ap₂ (λ (u : List (List ℕ)) (v : List ℕ). agreesAt (l .head .m) (l .head .s) u v x) p e) ∙ q)
+
+    pub right-lists : (x : ℕ) → x ≡ 2 ^ (l .head .m * l .head .s) → all x (agreesAt (l .head .m) (l .head .s) ls b) ≡ true → correct (l .head .m) (l .head .s) (stageOf (meaning f) t) ≡ true
+    right-lists x k q = right-stage x k (sym (ap₂ (λ (u : List (List ℕ)) (v : List ℕ). all x (agreesAt (l .head .m) (l .head .s) u v)) p e) ∙ q)
 
   -- ---- non-complete
 

@@ -7,5 +7,4 @@ pub mod Judging
 pub mod Uniform
 pub mod Steps
 pub mod Answering
-pub mod Read
 pub mod Exactly

@@ -40,9 +40,11 @@ pub fn correct_stage(file: &[u8], layout: Layout, t: usize) -> bool
     let s = layout.head.s;
     let n = sharings(layout);
     let table = design::table(file, layout, t);
+    let records = threshold::lists(file, layout, t);
+    let bits = layout.head.m * layout.head.s;
     let mut x: u32 = 0;
     while x < n {
-        let y = threshold::output_at(file, layout.head, &layout.starts, t, x);
+        let y = threshold::output_of(records, bits, x);
         if !agrees(table, m, s, x, y) {
             return false;
         }
@@ -102,9 +104,11 @@ fn mark_all(file: &[u8], layout: Layout, t: usize, workspace: &mut [u8]) -> bool
     ensures { λ r. ⌜ (r ≡ repeatsBy (sharingsOf layout) (output (stageOf (meaning (now (file .entry))) t .lists))) × (drop (marksOf layout) (now (workspace .exit)) ≡ drop (marksOf layout) (now (workspace .entry))) ⌝ }
 {
     let n = sharings(layout);
+    let records = threshold::lists(file, layout, t);
+    let bits = layout.head.m * layout.head.s;
     let mut x: u32 = 0;
     while x < n {
-        let y = threshold::output_at(file, layout.head, &layout.starts, t, x);
+        let y = threshold::output_of(records, bits, x);
         if mark_one(workspace, y as usize) {
             return true;
         }

@@ -5,12 +5,15 @@ use Prim.Native.Nat.{ℕ, _+_, _-_, _*_, _/_, _%_, _^_, _<_, _≤_}
 use native.Mathlib.Omega.{arith}
 use native.Mathlib.Nat.{not-suc-le-zero}
 use lib.ListN.{length, getD, set, length-set}
-use borrow.Author.Tests.{not-true, not-false}
 use borrow.Author.Needs.{needs}
+use borrow.Author.Tests.{not-true, not-false}
+use lib.Dec.{eqb}
 use Rattle.anf.specs.Tests.{all}
 use Rattle.anf.proofs.Testing.{all-more}
-use Rattle.design.proofs.Answered.{described, laid-out}
-use Rattle.checker.proofs.Judging.{rightAt, right-at, wrong-stage, right-stage, table-points}
+use Rattle.design.proofs.Answered.{described}
+use Rattle.threshold.specs.Sharing.{sum}
+use Rattle.threshold.specs.Records.{listsOf}
+use Rattle.checker.proofs.Judging.{agreesAt, wrong-lists, right-lists, table-points}
 use Rattle.checker.proofs.stages.correct_stage.Statement.{statement}
 use Rattle.checker.proofs.stages.correct_stage.Tie as tie
 use Rattle.checker.proofs.stages.correct_stage.Reads as reads
@@ -18,13 +21,14 @@ use Rattle.checker.proofs.stages.correct_stage.Lts as lts
 use Rattle.checker.proofs.stages.agrees.Reads as agrees-reads
 use Rattle.checker.proofs.stages.sharings.Reads as sharings-reads
 use Rattle.design.proofs.table.Reads as table-reads
-use Rattle.threshold.proofs.output_at.Reads as output-at-reads
+use Rattle.threshold.proofs.lists.Reads as lists-reads
+use Rattle.threshold.proofs.output_of.Reads as output-of-reads
 
 abbrev Inv-loop : tie.InvT-loop
-Inv-loop file t layout m s n table x₀ x = (x ≤ n) × (all x (rightAt file layout t) ≡ true)
+Inv-loop file t m s n table records bits x₀ x = (x ≤ n) × (all x (agreesAt m s (listsOf bits records) table) ≡ true)
 
 abbrev μ-loop : tie.MeasureT-loop
-μ-loop file t layout m s n table x₀ x = n - x
+μ-loop file t m s n table records bits x₀ x = n - x
 
 sharings-requires : tie.Need-sharings-requires Inv-loop μ-loop
 sharings-requires c κs = described (c .before .pre .0) .bounds .bits
@@ -32,30 +36,36 @@ sharings-requires c κs = described (c .before .pre .0) .bounds .bits
 table-requires : tie.Need-table-requires Inv-loop μ-loop
 table-requires c κs = c .before .before .pre
 
+lists-requires : tie.Need-lists-requires Inv-loop μ-loop
+lists-requires c κs = c .before .before .before .pre
+
+mul-bits : tie.Need-mul-bits Inv-loop μ-loop
+mul-bits c = let b = described (c .before .before .before .before .before .pre .0) .bounds .bits in omega arith
+
 loop-holds : tie.Need-loop-holds Inv-loop μ-loop
 unfolding all
 loop-holds c = (omega arith, refl)
 
-output-at-requires : tie.Need-output-at-requires Inv-loop μ-loop
-output-at-requires c κs = (laid-out (c .before .before .before .before .before .before .before .before .pre .0), c .before .before .before .before .before .before .before .before .pre .1)
+output-of-requires : tie.Need-output-of-requires Inv-loop μ-loop
+output-of-requires c κs = (c .before .before .before .lists .ensures .0, described (c .before .before .before .before .before .before .before .pre .0) .bounds .bits)
 
 agrees-requires : tie.Need-agrees-requires Inv-loop μ-loop
-agrees-requires c κs = (omega (arith, described (c .before .before .before .before .before .before .before .before .before .pre .0) .bounds .m-high), table-points _ _ (c .before .before .before .before .before .before .before .before .before .pre .0) _ (c .before .before .before .before .before .before .before .before .before .pre .1) _ (c .before .before .before .before .before .before .table .ensures))
+agrees-requires c κs = (omega (arith, described (c .before .before .before .before .before .before .before .before .pre .0) .bounds .m-high), table-points _ _ (c .before .before .before .before .before .before .before .before .pre .0) _ (c .before .before .before .before .before .before .before .before .pre .1) _ (c .before .before .before .before .before .table .ensures))
 
 returns : tie.Need-returns Inv-loop μ-loop
-returns c = sym (wrong-stage _ _ (c .before .before .before .before .before .before .before .before .before .before .before .pre .0) _ (c .before .before .before .before .before .before .before .before .before .before .before .pre .1) (c .before .before .before .before .before .before .before .loop .x) (omega (arith, c .before .before .before .before .before .before .before .before .before .sharings .ensures .0)) (right-at _ _ (c .before .before .before .before .before .before .before .before .before .before .before .pre .0) _ (c .before .before .before .before .before .before .before .before .before .before .before .pre .1) (c .before .before .before .before .before .before .before .loop .x) (c .before .before .output-at .result) _ (c .before .agrees .result) (c .before .before .before .before .before .before .before .before .table .ensures) (c .before .before .output-at .ensures .0) (c .before .agrees .ensures) ∙ not-true _ (c .if1 .taken)))
+returns c = sym (wrong-lists _ _ (c .before .before .before .before .before .before .before .before .before .before .pre .0) _ (c .before .before .before .before .before .before .before .before .before .before .pre .1) _ _ (c .before .before .before .before .before .before .lists .ensures .1) (c .before .before .before .before .before .before .before .table .ensures) (c .before .before .before .before .loop .x) (omega (arith, c .before .before .before .before .before .before .before .before .sharings .ensures .0)) (sym (c .before .agrees .ensures ∙ ap (λ (y : ℕ). eqb (sum (c .before .before .before .before .before .before .before .before .before .before .args .layout .head .m) (c .before .before .before .before .before .before .before .before .before .before .args .layout .head .s) y) (getD (c .before .before .before .before .before .before .before .table .result .now) (sum (c .before .before .before .before .before .before .before .before .before .before .args .layout .head .m) (c .before .before .before .before .before .before .before .before .before .before .args .layout .head .s) (c .before .before .before .before .loop .x)) 0)) (c .before .before .output-of .ensures .0)) ∙ not-true _ (c .if1 .taken)))
 
 add-x : tie.Need-add-x Inv-loop μ-loop
-add-x c = omega (arith, c .before .before .before .before .before .before .before .before .before .sharings .ensures .1)
+add-x c = omega (arith, c .before .before .before .before .before .before .before .before .sharings .ensures .1)
 
 loop-less : tie.Need-loop-less Inv-loop μ-loop
 loop-less c = omega arith
 
 loop-again : tie.Need-loop-again Inv-loop μ-loop
-loop-again c = (omega arith, all-more _ _ (c .before .before .before .before .before .before .before .loop .inv .1) (right-at _ _ (c .before .before .before .before .before .before .before .before .before .before .before .pre .0) _ (c .before .before .before .before .before .before .before .before .before .before .before .pre .1) (c .before .before .before .before .before .before .before .loop .x) (c .before .before .output-at .result) _ (c .before .agrees .result) (c .before .before .before .before .before .before .before .before .table .ensures) (c .before .before .output-at .ensures .0) (c .before .agrees .ensures) ∙ not-false _ (c .if1 .left)))
+loop-again c = (omega arith, all-more _ _ (c .before .before .before .before .loop .inv .1) (sym (c .before .agrees .ensures ∙ ap (λ (y : ℕ). eqb (sum (c .before .before .before .before .before .before .before .before .before .before .args .layout .head .m) (c .before .before .before .before .before .before .before .before .before .before .args .layout .head .s) y) (getD (c .before .before .before .before .before .before .before .table .result .now) (sum (c .before .before .before .before .before .before .before .before .before .before .args .layout .head .m) (c .before .before .before .before .before .before .before .before .before .before .args .layout .head .s) (c .before .before .before .before .loop .x)) 0)) (c .before .before .output-of .ensures .0)) ∙ not-false _ (c .if1 .left)))
 
 returns-2 : tie.Need-returns-2 Inv-loop μ-loop
-returns-2 c = sym (right-stage _ _ (c .before .before .before .before .before .pre .0) _ (c .before .before .before .before .before .pre .1) (c .before .loop .x) (omega (arith, c .before .before .before .sharings .ensures .0)) (c .before .loop .inv .1))
+returns-2 c = sym (right-lists _ _ (c .before .before .before .before .before .before .before .pre .0) _ (c .before .before .before .before .before .before .before .pre .1) _ _ (c .before .before .before .lists .ensures .1) (c .before .before .before .before .table .ensures) (c .before .loop .x) (omega (arith, c .before .before .before .before .before .sharings .ensures .0)) (c .before .loop .inv .1))
 
 pub correct-stage-spec : {M : Type 1} → statement M
 correct-stage-spec =
@@ -65,8 +75,10 @@ correct-stage-spec =
     μ-loop
     sharings-requires
     table-requires
+    lists-requires
+    mul-bits
     loop-holds
-    output-at-requires
+    output-of-requires
     agrees-requires
     returns
     add-x

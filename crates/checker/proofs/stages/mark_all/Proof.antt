@@ -6,11 +6,11 @@ use native.Mathlib.Omega.{arith}
 use native.Mathlib.Nat.{not-suc-le-zero}
 use lib.ListN.{length, getD, set, length-set}
 use borrow.Author.Needs.{needs}
+use mathlib.Core.List.{List}
 use lib.ListN.{drop}
-use Rattle.design.specs.Design.{stageOf}
-use Rattle.design.specs.Reading.{meaning}
-use Rattle.design.proofs.Answered.{described, laid-out}
+use Rattle.design.proofs.Answered.{described}
 use Rattle.threshold.specs.Stages.{output}
+use Rattle.threshold.specs.Records.{listsOf}
 use Rattle.checker.specs.Marks.{marked, mark, repeatsBy, sharingsOf}
 use Rattle.checker.proofs.Marking.{Run, run-start, run-found, run-step, run-rest}
 use Rattle.checker.proofs.Judging.{sharings-whole}
@@ -20,49 +20,56 @@ use Rattle.checker.proofs.stages.mark_all.Reads as reads
 use Rattle.checker.proofs.stages.mark_all.Lts as lts
 use Rattle.checker.proofs.marks.mark_one.Reads as mark-one-reads
 use Rattle.checker.proofs.stages.sharings.Reads as sharings-reads
-use Rattle.threshold.proofs.output_at.Reads as output-at-reads
+use Rattle.threshold.proofs.lists.Reads as lists-reads
+use Rattle.threshold.proofs.output_of.Reads as output-of-reads
 
 abbrev Inv-loop : tie.InvT-loop
-Inv-loop file t workspace₀ layout n x₀ workspace x = Run (sharingsOf layout) (output (stageOf (meaning file) t .lists)) workspace₀ workspace x
+Inv-loop file t workspace₀ n records bits x₀ workspace x = Run (2 ^ bits) (output (listsOf bits records)) workspace₀ workspace x
 
 abbrev μ-loop : tie.MeasureT-loop
-μ-loop file t workspace₀ layout n x₀ workspace x = n - x
+μ-loop file t workspace₀ n records bits x₀ workspace x = n - x
 
 sharings-requires : tie.Need-sharings-requires Inv-loop μ-loop
 sharings-requires c κs = described (c .before .before .pre .0) .bounds .bits
 
-loop-holds : tie.Need-loop-holds Inv-loop μ-loop
-loop-holds c = run-start _ _ _ (c .before .before .before .pre .3)
+lists-requires : tie.Need-lists-requires Inv-loop μ-loop
+lists-requires c κs = (c .before .before .before .pre .0, c .before .before .before .pre .1)
 
-output-at-requires : tie.Need-output-at-requires Inv-loop μ-loop
-output-at-requires c κs = (laid-out (c .before .before .before .before .before .before .before .before .pre .0), c .before .before .before .before .before .before .before .before .pre .1)
+mul-bits : tie.Need-mul-bits Inv-loop μ-loop
+mul-bits c = let b = described (c .before .before .before .before .before .pre .0) .bounds .bits in omega arith
+
+loop-holds : tie.Need-loop-holds Inv-loop μ-loop
+loop-holds c = run-start _ _ _ (c .before .before .before .before .before .pre .3)
+
+output-of-requires : tie.Need-output-of-requires Inv-loop μ-loop
+output-of-requires c κs = (c .before .before .before .lists .ensures .0, described (c .before .before .before .before .before .before .before .pre .0) .bounds .bits)
 
 cast-mark-one : tie.Need-cast-mark-one Inv-loop μ-loop
 cast-mark-one c = omega arith
 
 mark-one-requires : tie.Need-mark-one-requires Inv-loop μ-loop
-mark-one-requires c κs = omega (arith, c .before .output-at .ensures .1, sharings-whole _ _ (c .before .before .before .before .before .before .before .before .before .before .pre .0) _ (c .before .before .before .before .before .before .before .before .before .before .pre .1), c .before .before .before .before .before .before .before .before .before .before .pre .2, c .before .before .before .before .before .before .loop .inv .long)
+mark-one-requires c κs = omega (arith, c .before .output-of .ensures .1, sharings-whole _ _ (c .before .before .before .before .before .before .before .before .before .pre .0) _ (c .before .before .before .before .before .before .before .before .before .pre .1), c .before .before .before .before .before .before .before .before .before .pre .2, c .before .before .before .loop .inv .long)
 
 same-length : tie.Need-same-length Inv-loop μ-loop
-same-length c = c .before .before .before .mark-one .kept .0 ∙ c .before .before .before .before .before .before .before .before .before .before .loop .inv .long
+same-length c = c .before .before .before .mark-one .kept .0 ∙ c .before .before .before .before .before .before .before .loop .inv .long
 
 returns : tie.Need-returns Inv-loop μ-loop
-returns c = let b = rw (c .before .before .before .before .before .output-at .ensures .0) at (c .before .before .before .before .before .output-at .ensures .1) in (sym (run-found _ _ _ _ _ (sharings-whole _ _ (c .before .before .before .before .before .before .before .before .before .before .before .before .before .before .pre .0) _ (c .before .before .before .before .before .before .before .before .before .before .before .before .before .before .pre .1)) (c .before .before .before .before .before .before .before .before .before .before .before .before .before .before .pre .2) (c .before .before .before .before .before .before .before .before .before .before .loop .inv) (omega (arith, c .before .before .before .before .before .before .before .before .before .before .before .sharings .ensures .0)) b (sym (rw (c .before .before .before .before .before .output-at .ensures .0) at (c .before .before .before .mark-one .ensures .0)) ∙ c .if1 .taken)), rw (c .before .before .before .mark-one .ensures .1, c .before .before .before .before .before .output-at .ensures .0) (run-rest _ _ _ _ _ (sharings-whole _ _ (c .before .before .before .before .before .before .before .before .before .before .before .before .before .before .pre .0) _ (c .before .before .before .before .before .before .before .before .before .before .before .before .before .before .pre .1)) (c .before .before .before .before .before .before .before .before .before .before .before .before .before .before .pre .2) (c .before .before .before .before .before .before .before .before .before .before .loop .inv) (omega (arith, c .before .before .before .before .before .before .before .before .before .before .before .sharings .ensures .0)) b))
+returns c = let b = rw (c .before .before .before .before .before .output-of .ensures .0) at (c .before .before .before .before .before .output-of .ensures .1) in (sym (run-found _ _ _ _ _ (sharings-whole _ _ (c .before .before .before .before .before .before .before .before .before .before .before .before .before .pre .0) _ (c .before .before .before .before .before .before .before .before .before .before .before .before .before .pre .1)) (c .before .before .before .before .before .before .before .before .before .before .before .before .before .pre .2) (c .before .before .before .before .before .before .before .loop .inv) (omega (arith, c .before .before .before .before .before .before .before .before .before .before .sharings .ensures .0)) b (sym (rw (c .before .before .before .before .before .output-of .ensures .0) at (c .before .before .before .mark-one .ensures .0)) ∙ c .if1 .taken)) ∙ ap (λ (ls : List (List ℕ)). repeatsBy (sharingsOf (c .before .before .before .before .before .before .before .before .before .before .before .before .before .args .layout)) (output ls)) (c .before .before .before .before .before .before .before .before .before .lists .ensures .1), rw (c .before .before .before .mark-one .ensures .1, c .before .before .before .before .before .output-of .ensures .0) (run-rest _ _ _ _ _ (sharings-whole _ _ (c .before .before .before .before .before .before .before .before .before .before .before .before .before .pre .0) _ (c .before .before .before .before .before .before .before .before .before .before .before .before .before .pre .1)) (c .before .before .before .before .before .before .before .before .before .before .before .before .before .pre .2) (c .before .before .before .before .before .before .before .loop .inv) (omega (arith, c .before .before .before .before .before .before .before .before .before .before .sharings .ensures .0)) b))
 
 add-x : tie.Need-add-x Inv-loop μ-loop
-add-x c = omega (arith, c .before .before .before .before .before .before .before .before .before .before .before .sharings .ensures .1)
+add-x c = omega (arith, c .before .before .before .before .before .before .before .before .before .before .sharings .ensures .1)
 
 loop-less : tie.Need-loop-less Inv-loop μ-loop
-loop-less c = omega (arith, c .before .before .before .before .before .before .before .before .before .before .before .sharings .ensures .0)
+loop-less c = omega (arith, c .before .before .before .before .before .before .before .before .before .before .sharings .ensures .0)
 
 loop-again : tie.Need-loop-again Inv-loop μ-loop
-loop-again c = let b = rw (c .before .before .before .before .before .output-at .ensures .0) at (c .before .before .before .before .before .output-at .ensures .1) in rw (c .before .before .before .mark-one .ensures .1, c .before .before .before .before .before .output-at .ensures .0) (run-step _ _ _ _ _ (sharings-whole _ _ (c .before .before .before .before .before .before .before .before .before .before .before .before .before .before .pre .0) _ (c .before .before .before .before .before .before .before .before .before .before .before .before .before .before .pre .1)) (c .before .before .before .before .before .before .before .before .before .before .before .before .before .before .pre .2) (c .before .before .before .before .before .before .before .before .before .before .loop .inv) (omega (arith, c .before .before .before .before .before .before .before .before .before .before .before .sharings .ensures .0)) b (sym (rw (c .before .before .before .before .before .output-at .ensures .0) at (c .before .before .before .mark-one .ensures .0)) ∙ c .if1 .left))
+loop-again c = let b = rw (c .before .before .before .before .before .output-of .ensures .0) at (c .before .before .before .before .before .output-of .ensures .1) in rw (c .before .before .before .mark-one .ensures .1, c .before .before .before .before .before .output-of .ensures .0) (run-step _ _ _ _ _ (sharings-whole _ _ (c .before .before .before .before .before .before .before .before .before .before .before .before .before .pre .0) _ (c .before .before .before .before .before .before .before .before .before .before .before .before .before .pre .1)) (c .before .before .before .before .before .before .before .before .before .before .before .before .before .pre .2) (c .before .before .before .before .before .before .before .loop .inv) (omega (arith, c .before .before .before .before .before .before .before .before .before .before .sharings .ensures .0)) b (sym (rw (c .before .before .before .before .before .output-of .ensures .0) at (c .before .before .before .mark-one .ensures .0)) ∙ c .if1 .left))
 
 same-length-2 : tie.Need-same-length-2 Inv-loop μ-loop
 same-length-2 c = c .before .loop .inv .long
 
 returns-2 : tie.Need-returns-2 Inv-loop μ-loop
-returns-2 c = let e : c .before .loop .x ≡ sharingsOf (c .before .before .before .before .before .args .t2) = omega (arith, c .before .before .sharings .ensures .0, c .before .loop .inv .most) in (sym (rw e at (c .before .loop .inv .once)), c .before .loop .inv .rest)
+returns-2 c = let e : c .before .loop .x ≡ sharingsOf (c .before .before .before .before .before .before .before .args .layout) = omega (arith, c .before .before .before .before .sharings .ensures .0, c .before .loop .inv .most) in (sym (rw e at (c .before .loop .inv .once)) ∙ ap (λ (ls : List (List ℕ)). repeatsBy (sharingsOf (c .before .before .before .before .before .before .before .args .layout)) (output ls)) (c .before .before .before .lists .ensures .1), c .before .loop .inv .rest)
 
 pub mark-all-spec : {M : Type 1} → statement M
 mark-all-spec =
@@ -71,8 +78,10 @@ mark-all-spec =
     Inv-loop
     μ-loop
     sharings-requires
+    lists-requires
+    mul-bits
     loop-holds
-    output-at-requires
+    output-of-requires
     cast-mark-one
     mark-one-requires
     same-length
