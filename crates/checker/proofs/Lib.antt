@@ -8,3 +8,4 @@ pub mod Uniform
 pub mod Steps
 pub mod Answering
 pub mod Exactly
+pub mod Assurance

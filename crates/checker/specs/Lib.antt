@@ -2,3 +2,4 @@
 pub mod Verdict
 pub mod Marks
 pub mod Accepted
+pub mod Assurance

@@ -1,0 +1,80 @@
+-- From the verdict's reason 0 alone: every setting of every component of every stage is met exactly once whatever the secret, every run answers what the
+-- definitions give, and the output shares sum to S of the secret. Each accepted stage carries sharings one to one, and so does their chain.
+-- Assumes nothing.
+use mathlib.Core.Path.{_≡_, refl, sym, ap, _∙_, subst}
+use mathlib.Core.List.{List}
+use mathlib.Core.Bool.{Bool}
+use Prim.Native.Nat.{ℕ, _-_, _*_, _^_, _<_, _≤_}
+use native.Mathlib.Omega.{arith}
+use lib.ListN.{length}
+use Rattle.design.specs.Design.{Design, WellFormed, entry, stageOf}
+use Rattle.design.specs.Reading.{means, reading}
+use Rattle.design.proofs.Limits.{bounds}
+use Rattle.design.proofs.Theorems.{read-formed}
+use Rattle.threshold.specs.Sharing.{sum}
+use Rattle.threshold.specs.Stages.{component}
+use Rattle.threshold.specs.Chain.{handed, chained}
+use Rattle.threshold.proofs.Meetings.{AllSound, met-once, outcome, test-independent, value-independent}
+use Rattle.threshold.specs.Running.{packed}
+use Rattle.threshold.proofs.Running.{running-success, unpacked-sum, packed-sum, packed-lt, share-fits}
+use Rattle.checker.specs.Verdict.{verdict}
+use Rattle.checker.specs.Accepted.{Accepted}
+use Rattle.checker.specs.Assurance.{Assured, Blind}
+use Rattle.checker.proofs.Permutations.{chain-tables}
+use Rattle.checker.proofs.Exactly.{reason-zero}
+
+module _ (f : List ℕ) (n : ℕ) (d : Design) (a : Accepted f n d) where
+  formed : WellFormed d
+  formed = read-formed f d (a .reads)
+
+  within : {t : ℕ} → t < length (d .stages) → t < d .k
+  within l = let e = formed .count in omega arith
+
+  -- each stage is sound: its table is a permutation, as the chain of tables is S and S is one
+  sound : AllSound (d .m) (d .s) (d .stages)
+  sound t l =
+      let g = formed .stage t (within l) in
+      record {
+        size = g .count;
+        permutes = record {
+          into = g .table .below;
+          injective =
+              chain-tables (2 ^ d .m) (d .stages) (λ i k. formed .stage i (within k) .table .below)
+              (λ x y lx ly e. a .box x y lx ly (sym (a .chain x lx) ∙ e ∙ a .chain y ly)) t l;
+        };
+        correct = a .stages t (within l) .correct;
+        uniform = a .stages t (within l) .uniform;
+      }
+
+  shares-most : d .s ≤ 5
+  shares-most = bounds (d .m) (d .s) (d .k) (formed .limits) .s-high
+
+  accepted-assured : Assured f d
+  accepted-assured =
+      record {
+        reads = a .reads;
+        met = λ x lx i j q li lj lq. met-once (d .m) (d .s) (d .stages) sound x i j q lx lj lq;
+        runs = λ x lx l h. (
+          running-success f l d (a .reads) (h .fit),
+          unpacked-sum (d .m) (d .s) (handed (d .stages) (d .k) (packed (d .m) (d .s) l)) shares-most
+              ∙ ap (λ (k : ℕ). sum (d .m) (d .s) (handed (d .stages) k (packed (d .m) (d .s) l))) (sym (formed .count))
+              ∙ outcome (d .m) (d .s) (d .stages) sound (packed (d .m) (d .s) l) (packed-lt (d .m) (d .s) l (share-fits (d .m) (d .s) l (h .fit) shares-most))
+              ∙ ap (chained (d .stages)) (packed-sum (d .m) (d .s) l shares-most (h .five) (h .fit) ∙ h .sums)
+              ∙ a .chain x lx,
+        );
+      }
+
+  accepted-blind : Blind d
+  accepted-blind =
+      record {
+        settings = λ x y i j lx ly li lj p. test-independent (d .m) (d .s) (d .stages) sound x y i j lx ly lj p;
+        values = λ x y i j z lx ly li lj.
+            value-independent (d .m) (d .s) (d .stages) sound (component (d .m) (stageOf d i .lists) j) x y i j z (a .stages i li .nonComplete j lj) lx ly lj;
+      }
+
+-- The one theorem: for every file and every workspace length, from the verdict's reason 0.
+pub assurance : (f : List ℕ) (n : ℕ) → verdict f n .reason ≡ 0 → (d : Design) × Assured f d
+assurance f n e = let r = reason-zero f n e in (r .0, accepted-assured f n (r .0) (r .1))
+
+pub blind : (f : List ℕ) (n : ℕ) → verdict f n .reason ≡ 0 → (d : Design) × Assured f d × Blind d
+blind f n e = let r = reason-zero f n e in (r .0, accepted-assured f n (r .0) (r .1), accepted-blind f n (r .0) (r .1))

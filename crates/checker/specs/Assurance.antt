@@ -1,0 +1,49 @@
+-- The assurance: what follows where the verdict on a file has reason 0. It counts over the definitions of sharings, stages and runs.
+use Prim.Native.Nat.{ℕ, _-_, _*_, _^_, _<_}
+use mathlib.Core.Path.{_≡_}
+use mathlib.Core.Bool.{Bool, true, _&&_}
+use mathlib.Core.List.{List}
+use lib.Dec.{eqb}
+use lib.ListN.{length, getD}
+use Rattle.anf.specs.Tests.{count}
+use Rattle.anf.specs.Sums.{xorBelow}
+use Rattle.design.specs.Design.{Design, entry, stageOf}
+use Rattle.design.specs.Reading.{means, reading}
+use Rattle.threshold.specs.Sharing.{sum, setting}
+use Rattle.threshold.specs.Stages.{component}
+use Rattle.threshold.specs.Chain.{handed, meetings}
+use Rattle.threshold.specs.Running.{packed, unpacked, sharesFit, running}
+
+-- the sum of five shares
+abbrev pub fiveSum : List ℕ → ℕ
+fiveSum l = xorBelow 5 (λ j. getD l j 0)
+
+-- five bytes are a sharing of x: used shares are below 2^m, unused ones zero, and they sum to x
+pub record Shares (d : Design) (x : ℕ) (l : List ℕ) : Type 0 where
+  pub five : length l ≡ 5
+  pub fit : sharesFit (d .m) (d .s) l ≡ true
+  pub sums : fiveSum l ≡ x
+
+-- the output shares that the last stage gives when the shares l are sent through, unused ones zero
+abbrev pub outputShares : Design → List ℕ → List ℕ
+outputShares d l = unpacked (d .m) (d .s) (handed (d .stages) (d .k) (packed (d .m) (d .s) l))
+
+-- The file f reads as d, and for every secret x below 2^m:
+--   for every stage i, component j and setting q of the s - 1 shares that it may read, the meetings are exactly 1;
+--   running f on any sharing of x answers 0 and the output shares of the last stage, and these sum to S(x).
+pub record Assured (f : List ℕ) (d : Design) : Type 0 where
+  pub reads : reading f ≡ means d
+  pub met : (x : ℕ) → x < 2 ^ d .m → (i j q : ℕ) → i < d .k → j < d .s → q < 2 ^ (d .m * (d .s - 1)) → meetings (d .m) (d .s) (d .stages) x i j q ≡ 1
+  pub runs : (x : ℕ) → x < 2 ^ d .m → (l : List ℕ) → Shares d x l
+      → (running f l ≡ record { reason = 0; shares = outputShares d l }) × (fiveSum (outputShares d l) ≡ entry (d .box) x)
+
+-- how many sharings of x pass a test of what stage i is handed
+abbrev pub passing : Design → ℕ → ℕ → (ℕ → Bool) → ℕ
+passing d x i p = count (2 ^ (d .m * d .s)) (λ σ. eqb (sum (d .m) (d .s) σ) x && p (handed (d .stages) i σ))
+
+-- What follows of it: no test of a setting tells one secret from another, and nor does the value that a component gives.
+pub record Blind (d : Design) : Type 0 where
+  pub settings : (x y i j : ℕ) → x < 2 ^ d .m → y < 2 ^ d .m → i < d .k → j < d .s → (p : ℕ → Bool)
+      → passing d x i (λ σ. p (setting (d .m) j σ)) ≡ passing d y i (λ σ. p (setting (d .m) j σ))
+  pub values : (x y i j z : ℕ) → x < 2 ^ d .m → y < 2 ^ d .m → i < d .k → j < d .s
+      → passing d x i (λ σ. eqb (component (d .m) (stageOf d i .lists) j σ) z) ≡ passing d y i (λ σ. eqb (component (d .m) (stageOf d i .lists) j σ) z)
