@@ -9,3 +9,4 @@ pub mod Steps
 pub mod Answering
 pub mod Exactly
 pub mod Assurance
+pub mod Bench

@@ -3,3 +3,4 @@ pub mod Verdict
 pub mod Marks
 pub mod Accepted
 pub mod Assurance
+pub mod Bench
