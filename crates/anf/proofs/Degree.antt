@@ -18,6 +18,7 @@ use lib.ListN.{length, set, getD}
 use borrow.Author.Tests.{ne-eqb, eqb-false}
 use Rattle.anf.specs.Tests.{pick}
 use Rattle.anf.specs.Sums.{xorBelow}
+use Rattle.anf.specs.Points.{Points, Ignores}
 use Rattle.anf.specs.NormalForm.{subsetSum, largest, degree}
 use Rattle.anf.proofs.Testing.{below}
 use Rattle.anf.proofs.Xor.{and-xor}
@@ -160,15 +161,6 @@ partition (suc n) s u h l = go s (λ s v k q. partition n s v k q) (top-cases n 
         )
 
 -- ---- the bound
-
--- s points of n variables
-pub record Points (n s : ℕ) (xs : List ℕ) : Type 0 where
-  pub size : length xs ≡ s
-  pub below : (j : ℕ) → j < s → getD xs j 0 < 2 ^ n
-
--- a function of s points does not depend on point j
-abbrev pub Ignores : ℕ → ℕ → ℕ → (List ℕ → ℕ) → Type 0
-Ignores n s j F = (xs : List ℕ) → Points n s xs → (v : ℕ) → v < 2 ^ n → F (set xs j v) ≡ F xs
 
 below-at : (hi : ℕ) (xs : List ℕ) → Below hi xs → (j : ℕ) → j < length xs → getD xs j 0 < hi
 below-at hi [] b j l = absurd (not-suc-le-zero l)

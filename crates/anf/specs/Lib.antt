@@ -6,3 +6,4 @@ pub mod Terms
 pub mod Tables
 pub mod Transform
 pub mod Bench
+pub mod Points

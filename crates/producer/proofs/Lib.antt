@@ -15,3 +15,4 @@ pub mod Gathering
 pub mod Writing
 pub mod Answering
 pub mod Bench
+pub mod Lengths

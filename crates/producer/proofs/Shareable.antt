@@ -14,7 +14,8 @@ use lib.Seq.{split-at, set-split, getD-take}
 use Rattle.anf.specs.Sums.{xorBelow}
 use Rattle.anf.specs.NormalForm.{degree}
 use Rattle.anf.proofs.Sums.{xorBelow-ext}
-use Rattle.anf.proofs.Degree.{Points, degree-bound}
+use Rattle.anf.specs.Points.{Points}
+use Rattle.anf.proofs.Degree.{degree-bound}
 use Rattle.design.specs.Design.{entry, TableFits}
 use Rattle.threshold.specs.Sharing.{share, sum, setting, putShare, withShare}
 use Rattle.threshold.specs.Stages.{component, Correct, NonComplete}

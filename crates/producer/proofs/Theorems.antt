@@ -25,17 +25,11 @@ use Rattle.design.proofs.Theorems.{encode-reads}
 use Rattle.threshold.specs.Stages.{component, correct, nonComplete, Correct, NonComplete}
 use Rattle.threshold.specs.Chain.{chained}
 use Rattle.threshold.proofs.Tests.{correct↔, nonComplete↔}
-use Rattle.producer.specs.Direct.{directStage, directSharing, Shareable}
+use Rattle.producer.specs.Direct.{directStage, directSharing, Shareable, Box}
 use Rattle.producer.specs.Producing.{produced, producedReason, producing, outputAfter}
 use Rattle.producer.proofs.Stage.{direct-correct, direct-non-complete}
 use Rattle.producer.proofs.Formed.{sharing-formed}
 use Rattle.producer.proofs.Shareable.{shareable-low, low-shareable}
-
--- a permutation table within the limits
-pub record Box (m s : ℕ) (t : List ℕ) : Type 0 where
-  pub limits : broken m s 1 ≡ false
-  pub table : TableFits m t
-  pub injective : Injective (2 ^ m) (entry t)
 
 -- the tests that come before 16
 module _ (m s : ℕ) (t : List ℕ) (room : ℕ) where

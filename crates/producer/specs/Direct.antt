@@ -1,13 +1,14 @@
 -- The direct sharing of a box.
 use Prim.Native.Nat.{ℕ, zero, suc, _+_, _*_, _/_, _%_, _^_, _<_}
 use mathlib.Core.Path.{_≡_}
-use mathlib.Core.Bool.{Bool, not, _&&_}
+use mathlib.Core.Bool.{Bool, false, not, _&&_}
 use mathlib.Core.List.{List, [], _∷_}
 use lib.Dec.{eqb}
 use Rattle.anf.specs.Tests.{pick, all, any, first, total, bit, count, tabulate}
 use Rattle.anf.specs.NormalForm.{subsetSum}
 use Rattle.anf.specs.Terms.{passing}
-use Rattle.design.specs.Design.{Stage, Design, entry}
+use Rattle.design.specs.Limits.{broken}
+use Rattle.design.specs.Design.{Stage, Design, TableFits, entry}
 use Rattle.threshold.specs.Sharing.{share}
 use Rattle.threshold.specs.Stages.{Correct, NonComplete}
 
@@ -55,3 +56,9 @@ pub record Shareable (m s : ℕ) (t : List ℕ) : Type 0 where
   pub F : ℕ → ℕ → ℕ
   pub correct : Correct m s F t
   pub nonComplete : NonComplete m s F
+
+-- a permutation table within the limits
+pub record Box (m s : ℕ) (t : List ℕ) : Type 0 where
+  pub limits : broken m s 1 ≡ false
+  pub table : TableFits m t
+  pub injective : (x y : ℕ) → x < 2 ^ m → y < 2 ^ m → entry t x ≡ entry t y → x ≡ y

@@ -20,6 +20,7 @@ ghost use Rattle.producer.specs.Producing.{producing, outputAfter};
 ghost use Rattle.producer.specs.Expanding.{Ready, refused};
 
 // The number of a refusal, or 0 and the length of the file.
+#[repr(C)]
 pub struct Produced {
     pub reason: usize,
     pub length: usize,
