@@ -22,6 +22,7 @@ ghost use Rattle.checker.specs.Verdict.{answer, firstRepeating, stageVer
 ghost use Rattle.checker.specs.Marks.{zeroed, marksOf};
 
 // Reason, place and component, as the paper numbers them.
+#[repr(C)]
 pub struct Verdict {
     pub reason: usize,
     pub place: usize,

@@ -11,6 +11,7 @@ pub use runs::run;
 pub use runs::run_stage;
 
 // What a run answers: the reason, 0 on success, and five shares.
+#[repr(C)]
 pub struct Ran {
     pub reason: usize,
     pub shares: [u8; 5],

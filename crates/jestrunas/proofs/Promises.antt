@@ -1,0 +1,142 @@
+-- Every theorem that a customer relies on, stated in full and cited. Together with the contracts of src/lib.rt, whoever trusts the proof checker need read
+-- only this file and the definitions in the crates' specs/. Lists of numbers stand for bytes; `sum` and `xorBelow` are XOR.
+-- Assumes nothing.
+use mathlib.Core.Path.{_≡_}
+use mathlib.Core.Logic.{_↔_, _⊎_, _≢_}
+use mathlib.Core.Bool.{Bool, true}
+use mathlib.Core.List.{List, [], _∷_, _++_, map}
+use Prim.Native.Nat.{ℕ, _^_, _≤_, _<_}
+use lib.Count.{ones}
+use lib.ListN.{length, getD, take, drop}
+use Rattle.anf.specs.Sums.{xorBelow}
+use Rattle.anf.specs.NormalForm.{subsetSum, degree}
+use Rattle.anf.specs.Terms.{valueAt, TermList, names, Depends}
+use Rattle.anf.specs.Points.{Points, Ignores}
+use Rattle.anf.specs.Transform.{transformReason, transformAfter}
+use Rattle.anf.specs.Bench as bench-anf
+use Rattle.design.specs.Bytes.{Bytes}
+use Rattle.design.specs.Design.{Design, WellFormed, SameMeaning, entry}
+use Rattle.design.specs.Encode.{encode}
+use Rattle.design.specs.Reading.{means, reading}
+use Rattle.design.specs.Bench as bench-design
+use Rattle.threshold.specs.Stages.{Correct, NonComplete, component}
+use Rattle.threshold.specs.Running.{running}
+use Rattle.checker.specs.Verdict.{answer, workspaceFor, verdict}
+use Rattle.checker.specs.Accepted.{Accepted, Explained}
+use Rattle.checker.specs.Assurance.{Assured, Blind}
+use Rattle.checker.specs.Bench as bench-checker
+use Rattle.producer.specs.Direct.{directStage, directSharing, Shareable, Box}
+use Rattle.producer.specs.Producing.{produced, producedReason, producing, outputAfter}
+use Rattle.producer.specs.Bench as bench-producer
+use Rattle.anf.proofs.Transform.{subsetSum-twice}
+use Rattle.anf.proofs.Terms.{unique-terms, names-exactly}
+use Rattle.anf.proofs.Degree.{shares-bound}
+use Rattle.anf.proofs.Answers.{transform-back}
+use Rattle.anf.proofs.Bench as anf-bench
+use Rattle.design.proofs.Theorems as design-theorems
+use Rattle.design.proofs.Bench as design-bench
+use Rattle.checker.proofs.Exactly as exactly
+use Rattle.checker.proofs.Assurance as assured
+use Rattle.checker.proofs.Bench as checker-bench
+use Rattle.producer.proofs.Theorems.{produced-sound, sixteen-exactly, output-file}
+use Rattle.producer.proofs.Bench as producer-bench
+use Rattle.jestrunas.proofs.Produced.{produced-verdict}
+
+-- ---- Normal form, for any number of variables
+
+-- 1. Transform. The subset sum of the subset sum is the table again.
+pub transform : (n : ℕ) (f : ℕ → ℕ) (u : ℕ) → u < 2 ^ n → subsetSum n (subsetSum n f) u ≡ f u
+transform = subsetSum-twice
+
+-- So the two operations undo each other: what one writes for an accepted input, the other accepts, and writes the input back.
+pub passage-back : (m : ℕ) (input output back : List ℕ) → transformReason m input (length output) ≡ 0 → 2 ^ m ≤ length back
+    → (transformReason m (take (2 ^ m) (transformAfter m input output)) (length back) ≡ 0)
+    × (transformAfter m (take (2 ^ m) (transformAfter m input output)) back ≡ input ++ drop (2 ^ m) back)
+passage-back = transform-back
+
+-- 2. Unique lists. Rising lists of terms with equal values at every point are equal.
+pub unique-lists : (n : ℕ) (a b : List ℕ) → TermList n a → TermList n b → ((x : ℕ) → x < 2 ^ n → valueAt a x ≡ valueAt b x) → a ≡ b
+unique-lists = unique-terms
+
+-- 3. Dependence. The function of a rising list depends on a group of variables exactly when one of its terms names one of them.
+pub dependence : (n group : ℕ) (l : List ℕ) → TermList n l → (names group l ≡ true) ↔ Depends n group (valueAt l)
+dependence = names-exactly
+
+-- 4. Degree. Where the coefficient at a set of s or more variables is not zero, no s functions, the j-th independent of share j, sum to the table.
+pub degree-limit : (n s : ℕ) (f : ℕ → ℕ) (F : ℕ → List ℕ → ℕ) → 1 ≤ s → ((j : ℕ) → j < s → Ignores n s j (F j))
+    → ((xs : List ℕ) → Points n s xs → xorBelow s (λ j. F j xs) ≡ f (xorBelow s (λ j. getD xs j 0)))
+    → (u : ℕ) → u < 2 ^ n → s ≤ ones u → subsetSum n f u ≢ 0 → ⊥
+degree-limit = shares-bound
+
+-- ---- The design file
+
+-- 5. File. A file reads as d exactly when d is well formed and the file is the encoding of d.
+pub file-exactly : (f : List ℕ) (d : Design) → Bytes f → (reading f ≡ means d) ↔ (WellFormed d × (f ≡ encode d))
+file-exactly = design-theorems.file-exactly
+
+-- 6. One meaning, one file. Readable files with equal m, s, k, tables and component functions are equal byte for byte.
+pub one-meaning-one-file : (f g : List ℕ) (d e : Design) → Bytes f → Bytes g → reading f ≡ means d → reading g ≡ means e → SameMeaning d e → f ≡ g
+one-meaning-one-file = design-theorems.one-meaning-one-file
+
+-- ---- The verdict
+
+-- 7. Accepted exactly when the file reads, S is a permutation, the workspace is enough, the chain of tables is S, and every stage is correct, non-complete
+-- and uniform as functions.
+pub accepted-exactly : (f : List ℕ) (n k : ℕ) → (verdict f n ≡ answer 0 k 0) ↔ ((d : Design) × (d .k ≡ k) × Accepted f n d)
+accepted-exactly = exactly.accepted-exactly
+
+-- And any verdict is explained: the fault that it names is there, and none before it in the published order is.
+pub explained : (f : List ℕ) (n : ℕ) → Explained f n (verdict f n)
+explained = exactly.explained
+
+-- 8. Assurance. From reason 0 alone: every meeting of every setting is exactly 1, for every secret, stage and component, and running the same bytes on any
+-- sharing of a secret answers 0 and output shares that sum to S of the secret.
+pub assurance : (f : List ℕ) (n : ℕ) → verdict f n .reason ≡ 0 → (d : Design) × Assured f d
+assurance = assured.assurance
+
+-- So no test of what a component may read, and no value that it gives, tells one secret from another.
+pub blind : (f : List ℕ) (n : ℕ) → verdict f n .reason ≡ 0 → (d : Design) × Assured f d × Blind d
+blind = assured.blind
+
+-- ---- The producer, for a permutation table within the limits
+
+-- 9. Of degree below s: what is produced reads as the direct sharing, whose one stage is correct and non-complete.
+pub produced-reads : (m s : ℕ) (t : List ℕ) → Box m s t → degree m (entry t) < s
+    → (reading (produced m s t) ≡ means (directSharing m s t))
+    × Correct m s (component m (directStage m s t .lists)) t
+    × NonComplete m s (component m (directStage m s t .lists))
+produced-reads m s t b low = let p = produced-sound m s t b low in (p .reads, p .correctly, p .non-completely)
+
+-- So with enough workspace its verdict is 0 or 14.
+pub produced-judged : (m s n : ℕ) (t : List ℕ) → Box m s t → degree m (entry t) < s → workspaceFor (directSharing m s t) ≤ n
+    → (verdict (produced m s t) n ≡ answer 0 1 0) ⊎ (verdict (produced m s t) n ≡ answer 14 1 0)
+produced-judged = produced-verdict
+
+-- 16 is answered exactly when no component functions at all, of a file or not, share the table correctly and non-completely with s shares.
+pub refused-exactly : (m s : ℕ) (t : List ℕ) (room : ℕ) → Box m s t → (producedReason m s t room ≡ 16) ↔ (Shareable m s t → ⊥)
+refused-exactly = sixteen-exactly
+
+-- On success the output starts with the file, which depends on m, s and the table alone.
+pub produced-file : (m s : ℕ) (t out : List ℕ) → producedReason m s t (length out) ≡ 0
+    → take (length (produced m s t)) (outputAfter m s t out) ≡ produced m s t
+produced-file = output-file
+
+-- ---- 10. Bench. Every starred design of the papers answers as it must.
+
+pub record Bench : Type 0 where
+  pub passages : bench-anf.AllPass bench-anf.rows
+  pub readings : map (λ r. reading (r .file)) bench-design.rows ≡ map (λ r. r .answer) bench-design.rows
+  pub verdicts : map (λ r. verdict (r .file) (r .workspace)) bench-checker.rows ≡ map (λ r. r .answer) bench-checker.rows
+  pub runs : map (λ r. running (r .file) (r .shares)) bench-checker.runs ≡ map (λ r. r .answer) bench-checker.runs
+  pub productions : map (λ r. producing (r .m) (r .s) (r .table) (length (r .output))) bench-producer.rows ≡ map (λ r. r .answer) bench-producer.rows
+  pub outputs : map (λ r. outputAfter (r .m) (r .s) (r .table) (r .output)) bench-producer.rows ≡ map (λ r. r .after) bench-producer.rows
+
+pub bench : Bench
+bench = record {
+  passages = anf-bench.bench;
+  readings = design-bench.bench;
+  verdicts = checker-bench.bench .0;
+  runs = checker-bench.bench .1;
+  productions = producer-bench.bench-answers;
+  outputs = producer-bench.bench-outputs;
+}

@@ -1,0 +1,2 @@
+-- The published operations.
+pub mod Published
