@@ -1,6 +1,6 @@
 -- What the answer of a stage is, case by case, in the words of the leaves' contracts: a layout's numbers are the design's.
 -- Assumes nothing.
-use mathlib.Core.Path.{_≡_, refl, sym, ap, ap₂, _∙_, subst}
+use mathlib.Core.Path.{_≡_, refl, sym, ap, ap₂, _∙_}
 use mathlib.Core.List.{List, _++_}
 use mathlib.Core.Bool.{Bool, true, false, not, _||_}
 use Prim.Native.Nat.{ℕ, _+_, _*_, _/_, _^_, _<_, _≤_}
@@ -10,16 +10,16 @@ use lib.Seq.{drop-at}
 use lib.Dec.{ltb}
 use borrow.Author.Tests.{lt-ltb, le-ltb}
 use Rattle.anf.specs.Tables.{repeats}
-use Rattle.anf.specs.Tests.{pick, any, first}
+use Rattle.anf.specs.Tests.{pick, first}
 use Rattle.anf.proofs.Testing.{pick-true, pick-false, or-left, or-right, or-none}
-use Rattle.design.specs.Design.{Design, Stage, stageOf}
-use Rattle.design.specs.Reading.{refused, means, reading, meaning}
+use Rattle.design.specs.Design.{Stage, stageOf}
+use Rattle.design.specs.Reading.{refused, reading, meaning}
 use Rattle.design.specs.Layout.{Describes}
 use Rattle.design.specs.declared.Layout.{Layout}
 use Rattle.design.proofs.Answered.{described}
 use Rattle.threshold.specs.Stages.{output, correct, readsOwn, uniform}
 use Rattle.threshold.proofs.Stages.{Permutes}
-use Rattle.checker.specs.Verdict.{answer, workspaceFor, chainIsBox, firstRepeating, stageVerdict, judgeStages, judged, judgedReading, verdict, workspaceAfter, workspaceAfterReading}
+use Rattle.checker.specs.Verdict.{answer, workspaceFor, chainIsBox, firstRepeating, judgeStages, judged, judgedReading, verdict, workspaceAfter, workspaceAfterReading}
 use Rattle.checker.specs.Marks.{repeatsBy, zeroed, sharingsOf, marksOf}
 use Rattle.checker.specs.declared.Verdict.{Verdict}
 use Rattle.checker.proofs.Steps.{readsOwnAt, stageAnswer, stagesFrom, stages-next, stages-end, stage-wrong, stage-reads, stage-judged, stage-fault, stage-fine}

@@ -1,14 +1,12 @@
 -- From the verdict's reason 0 alone: every setting of every component of every stage is met exactly once whatever the secret, every run answers what the
 -- definitions give, and the output shares sum to S of the secret. Each accepted stage carries sharings one to one, and so does their chain.
 -- Assumes nothing.
-use mathlib.Core.Path.{_≡_, refl, sym, ap, _∙_, subst}
+use mathlib.Core.Path.{_≡_, sym, ap, _∙_}
 use mathlib.Core.List.{List}
-use mathlib.Core.Bool.{Bool}
-use Prim.Native.Nat.{ℕ, _-_, _*_, _^_, _<_, _≤_}
+use Prim.Native.Nat.{ℕ, _-_, _^_, _<_, _≤_}
 use native.Mathlib.Omega.{arith}
 use lib.ListN.{length}
-use Rattle.design.specs.Design.{Design, WellFormed, entry, stageOf}
-use Rattle.design.specs.Reading.{means, reading}
+use Rattle.design.specs.Design.{Design, WellFormed, stageOf}
 use Rattle.design.proofs.Limits.{bounds}
 use Rattle.design.proofs.Theorems.{read-formed}
 use Rattle.threshold.specs.Sharing.{sum}

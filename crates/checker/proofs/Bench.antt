@@ -1,8 +1,7 @@
 -- Every bench row of the verdict and of running, by computing.
-use Prim.Native.Nat.{ℕ}
 use mathlib.Core.Path.{_≡_, refl}
 use mathlib.Core.List.{map}
-use Rattle.anf.specs.Tests.{all, any, first, total, tabulate}
+use Rattle.anf.specs.Tests.{any, first, total}
 use Rattle.anf.specs.Sums.{xorBelow}
 use Rattle.anf.specs.NormalForm.{subset}
 use Rattle.anf.specs.Terms.{valueAt}

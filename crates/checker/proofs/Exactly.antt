@@ -1,33 +1,30 @@
 -- The verdict explained: the fault that it names is there and none before it in the published order is; and a file is accepted exactly when it has none.
 -- Each test is one case, and means its fact by the law of the test. Assumes nothing.
-use mathlib.Core.Path.{_≡_, refl, sym, ap, ap₂, _∙_, subst}
-use mathlib.Core.Logic.{_↔_, _⊎_, inl, inr, ⊎-elim}
-use mathlib.Core.List.{List, [], _∷_}
+use mathlib.Core.Path.{_≡_, refl, sym, ap, _∙_, subst}
+use mathlib.Core.Logic.{_↔_}
+use mathlib.Core.List.{List}
 use mathlib.Core.Bool.{Bool, true, false}
-use Prim.Native.Nat.{ℕ, zero, suc, _+_, _-_, _*_, _^_, _<_, _≤_}
+use Prim.Native.Nat.{ℕ, zero, suc, _+_, _-_, _^_, _<_}
 use native.Mathlib.Nat.{not-suc-le-zero}
-use native.Mathlib.Numerals.{add-one}
 use native.Mathlib.Omega.{arith}
 use borrow.Author.Count.{below-more}
-use lib.Dec.{eqb, ltb}
-use lib.ListN.{length}
+use lib.Dec.{ltb}
 use borrow.Author.Tests.{eqb-true, eq-eqb, ltb-true, ltb-false}
-use Rattle.anf.specs.Tests.{pick, all, any, first}
+use Rattle.anf.specs.Tests.{pick, any, first}
 use Rattle.anf.specs.Tables.{repeats}
-use Rattle.anf.proofs.Testing.{all-at, all-intro, any-at, any-none, none-any, any-some, first-is, first-none, clash, not-true-false, true-or-false, pick-true, pick-false}
-use Rattle.design.specs.Design.{Design, WellFormed, entry, stageOf}
+use Rattle.anf.proofs.Testing.{all-at, all-intro, any-none, first-is, clash}
+use Rattle.design.specs.Design.{Design, WellFormed, stageOf}
 use Rattle.design.specs.Reading.{Reading, refused, means, reading}
-use Rattle.threshold.specs.Stages.{correct, readsOwn, uniform}
-use Rattle.threshold.specs.Chain.{chained}
+use Rattle.threshold.specs.Stages.{correct, uniform}
 use Rattle.threshold.proofs.Tests.{correct↔, ignores↔, uniform↔}
-use Rattle.checker.specs.Verdict.{answer, workspaceFor, chainIsBox, firstRepeating, stageVerdict, judgeStages, judged, judgedReading, verdict}
+use Rattle.checker.specs.Verdict.{answer, workspaceFor, chainIsBox, firstRepeating, stageVerdict, judged, judgedReading, verdict}
 use Rattle.checker.specs.Accepted.{Permutation, ChainIsBox, TablePermutes, CorrectAt, IgnoresOwn, NonCompleteAt, UniformAt, Sound, Accepted, Ready, Passed, Explained, refusal, fault-8, fault-9, fault-10, fault-11, fault-12, fault-13, fault-14, accepted}
 use Rattle.checker.specs.declared.Verdict.{Verdict}
-use Rattle.checker.proofs.Steps.{readsOwnAt, stageAnswer, stagesFrom, stages-next, stages-end, stages-all}
+use Rattle.checker.proofs.Steps.{readsOwnAt, stagesFrom, stages-next, stages-end}
 use Rattle.design.proofs.Theorems.{read-formed}
 use Rattle.design.proofs.Reasons.{reason-range}
 use Rattle.checker.proofs.Repeating.{first-repeats, none-repeats, none-permutes}
-use Rattle.checker.proofs.Permutations.{repeats-permutation, permutation-repeats, repeats-none, chain-tables}
+use Rattle.checker.proofs.Permutations.{repeats-permutation, repeats-none, chain-tables}
 
 -- a verdict by a test is explained where both its sides are
 picked : (f : List ℕ) (n : ℕ) (b : Bool) (x y : Verdict) → (b ≡ true → Explained f n x) → (b ≡ false → Explained f n y) → Explained f n (pick b x y)

@@ -2,20 +2,18 @@
 -- Assumes nothing.
 use mathlib.Core.Path.{_≡_, refl, sym, ap, ap₂, _∙_, subst}
 use mathlib.Core.List.{List, [], _∷_}
-use mathlib.Core.Bool.{Bool, true, false, not, _||_}
-use mathlib.Core.Logic.{⊎-elim}
-use Prim.Native.Nat.{ℕ, zero, suc, _+_, _-_, _*_, _/_, _%_, _^_, _<_, _≤_}
+use mathlib.Core.Bool.{Bool, true, false}
+use Prim.Native.Nat.{ℕ, zero, suc, _+_, _-_, _*_, _%_, _^_, _<_, _≤_}
 use native.Mathlib.Nat.{mul-mod-left, le-of-suc-le-suc, not-suc-le-zero}
 use native.Mathlib.Omega.{arith}
 use lib.Dec.{eqb}
-use lib.Bits.{bitAnd}
 use lib.Pow.{pow-add, pow-mono}
 use lib.ListN.{length, getD}
-use Rattle.anf.specs.Tests.{pick, all, any, first}
+use Rattle.anf.specs.Tests.{all, any}
 use Rattle.anf.specs.Terms.{TermList, names}
-use Rattle.anf.proofs.Testing.{all-more, all-fails, any-at, any-none-more, first-found, first-none, or-left, or-right, or-none, any-some, any-none, none-any}
+use Rattle.anf.proofs.Testing.{all-fails, any-at, or-left, or-right, or-none, any-none}
 use Rattle.design.specs.Bytes.{terms, termBytes}
-use Rattle.design.specs.Design.{Stage, entry, stageOf, listOf}
+use Rattle.design.specs.Design.{entry, stageOf, listOf}
 use Rattle.design.specs.Reading.{meaning}
 use Rattle.design.specs.Layout.{Describes}
 use Rattle.design.specs.declared.Layout.{Layout}

@@ -1,11 +1,11 @@
 -- Marks: marking y marks y and nothing else. A run of marks meets one twice exactly when two outputs are equal; and that is what `repeatsBy` says.
 -- Assumes nothing.
-use mathlib.Core.Path.{_≡_, refl, sym, ap, ap₂, _∙_, subst}
+use mathlib.Core.Path.{_≡_, refl, sym, ap, _∙_, subst}
 use mathlib.Core.List.{List, _++_}
 use mathlib.Core.Bool.{Bool, true, false, _||_}
-use mathlib.Core.Logic.{⊎-elim, _≢_}
-use Prim.Native.Nat.{ℕ, zero, suc, _+_, _-_, _*_, _/_, _%_, _^_, _<_, _≤_}
-use native.Mathlib.Nat.{div-self, zero-div, div-eq-of-lt, mul-mod-left, pow-suc, mod-lt, zero-lt-suc, lt-irrefl}
+use mathlib.Core.Logic.{_≢_}
+use Prim.Native.Nat.{ℕ, zero, suc, _+_, _-_, _/_, _%_, _^_, _<_, _≤_}
+use native.Mathlib.Nat.{div-self, zero-div, div-eq-of-lt, mul-mod-left, pow-suc, mod-lt, zero-lt-suc}
 use native.Mathlib.Decide.{ℕ-discrete, decLt}
 use native.Mathlib.Omega.{arith}
 use lib.Dec.{eqb}
@@ -15,7 +15,7 @@ use lib.Bits.{bitOr, or-shr, or-mod, or-zero-r}
 use lib.Pow.{pow-pos, pow-lt, pow-add, shl-shr}
 use borrow.Author.Tests.{eq-eqb, ne-eqb, eqb-true}
 use Rattle.anf.specs.Tests.{any}
-use Rattle.anf.proofs.Testing.{or-right, any-at, any-some, any-step, none-any, not-true-false, clash}
+use Rattle.anf.proofs.Testing.{or-right, any-at, any-some, any-step, not-true-false, clash}
 use Rattle.anf.proofs.Counting.{Injective}
 use Rattle.checker.specs.Marks.{marked, mark, Clear, repeatsBy, zeroed}
 

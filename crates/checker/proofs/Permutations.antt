@@ -1,21 +1,20 @@
 -- Tables: `repeats` means that the table is no permutation; and in a chain of tables that is a permutation, each table is one:
 -- the first repeats no entry, so it takes every value, so the rest of the chain repeats none.
 -- Assumes nothing.
-use mathlib.Core.Path.{_≡_, refl, sym, ap, ap₂, _∙_, subst}
+use mathlib.Core.Path.{_≡_, refl, sym, ap, _∙_}
 use mathlib.Core.List.{List, [], _∷_}
-use mathlib.Core.Bool.{Bool, true, false}
-use Prim.Native.Nat.{ℕ, zero, suc, _+_, _^_, _<_, _≤_, suc-le-suc, zero-le}
+use mathlib.Core.Bool.{true, false}
+use Prim.Native.Nat.{ℕ, zero, suc, _^_, _<_, suc-le-suc, zero-le}
 use native.Mathlib.Nat.{not-suc-le-zero, le-of-suc-le-suc}
-use native.Mathlib.Omega.{arith}
 use lib.ListN.{length, getD}
 use Rattle.anf.specs.Tables.{repeats}
 use Rattle.anf.proofs.Counting.{Injective, onto}
-use Rattle.anf.proofs.Testing.{not-true-false, clash}
+use Rattle.anf.proofs.Testing.{clash}
 use Rattle.design.specs.Design.{Stage, entry, noStage}
 use Rattle.threshold.specs.Chain.{chained}
 use Rattle.checker.specs.Marks.{repeatsBy}
 use Rattle.checker.specs.Accepted.{Permutation}
-use Rattle.checker.proofs.Marking.{repeats-clash, none-injective, injective-none}
+use Rattle.checker.proofs.Marking.{none-injective, injective-none}
 
 repeats-by : (m : ℕ) (t : List ℕ) → repeats (2 ^ m) t ≡ repeatsBy (2 ^ m) (entry t)
 unfolding repeats repeatsBy

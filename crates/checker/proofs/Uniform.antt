@@ -1,6 +1,6 @@
 -- Where a stage is correct and its table a permutation, it is uniform exactly when no two sharings give one output sharing.
 -- Assumes nothing.
-use mathlib.Core.Path.{_≡_, refl, sym, ap, _∙_}
+use mathlib.Core.Path.{_≡_, refl}
 use mathlib.Core.Bool.{Bool, true, false, not}
 use Prim.Native.Nat.{ℕ, _*_, _^_}
 use lib.ListN.{length}

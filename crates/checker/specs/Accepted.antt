@@ -1,5 +1,5 @@
 -- What the verdict says of a design, as facts about its tables and component functions; and when a file is accepted.
-use Prim.Native.Nat.{ℕ, _+_, _*_, _^_, _<_, _≤_}
+use Prim.Native.Nat.{ℕ, _+_, _^_, _<_, _≤_}
 use mathlib.Core.Path.{_≡_}
 use mathlib.Core.List.{List}
 use Rattle.design.specs.Design.{Design, entry, stageOf}

@@ -1,6 +1,6 @@
 -- The verdict on a file: three numbers, the first fault in the published order; and the workspace afterwards.
-use Prim.Native.Nat.{ℕ, zero, suc, _+_, _*_, _/_, _^_}
-use mathlib.Core.Bool.{Bool, true, false, not, _||_}
+use Prim.Native.Nat.{ℕ, suc, _+_, _*_, _/_, _^_}
+use mathlib.Core.Bool.{Bool, _||_}
 use mathlib.Core.List.{List, [], _∷_, _++_}
 use lib.ListN.{length, drop, replicate}
 use lib.Dec.{eqb, ltb}

@@ -38,12 +38,12 @@ pub fn correct_stage(file: &[u8], layout: Layout, t: usize) -> bool
 {
     let m = layout.head.m;
     let s = layout.head.s;
-    let n = sharings(layout);
+    let tries = sharings(layout);
     let table = design::table(file, layout, t);
     let records = threshold::lists(file, layout, t);
     let bits = layout.head.m * layout.head.s;
     let mut x: u32 = 0;
-    while x < n {
+    while x < tries {
         let y = threshold::output_of(records, bits, x);
         if !agrees(table, m, s, x, y) {
             return false;
@@ -105,10 +105,10 @@ fn mark_all(file: &[u8], layout: Layout, t: usize, workspace: &mut [u8]) -> bool
 {
     let n = sharings(layout);
     let records = threshold::lists(file, layout, t);
-    let bits = layout.head.m * layout.head.s;
+    let count = layout.head.m * layout.head.s;
     let mut x: u32 = 0;
     while x < n {
-        let y = threshold::output_of(records, bits, x);
+        let y = threshold::output_of(records, count, x);
         if mark_one(workspace, y as usize) {
             return true;
         }

@@ -1,32 +1,16 @@
 use borrow.Author.Needs.{needs}
 -- `judge` meets its contract, case by case in the published order.
-use mathlib.Core.Path.{_≡_, refl, sym, ap, _∙_}
-use mathlib.Core.Bool.{Bool, true, false}
-use Prim.Native.Nat.{ℕ, _+_, _-_, _*_, _/_, _%_, _^_, _<_, _≤_}
+use mathlib.Core.Path.{ap, _∙_}
+use Prim.Native.Nat.{ℕ, _-_, _/_}
 use native.Mathlib.Omega.{arith}
-use native.Mathlib.Nat.{not-suc-le-zero}
-use lib.ListN.{length, getD, set, length-set}
 use borrow.Author.Needs.{needs}
-use mathlib.Core.List.{_++_}
 use borrow.Author.Tests.{not-true, not-false}
-use lib.ListN.{drop, replicate}
 use Rattle.design.proofs.Answered.{described, refuses}
-use Rattle.checker.specs.Marks.{zeroed, marksOf}
+use Rattle.checker.specs.Marks.{zeroed}
 use Rattle.checker.proofs.Repeating.{box-repeats}
 use Rattle.checker.proofs.Answering.{stays-zeroed, refusal-verdict, refusal-workspace, judge-8, judge-9, judge-10, judge-11, judge-rest, judge-after}
 use Rattle.checker.proofs.judge.Statement.{statement}
 use Rattle.checker.proofs.judge.Tie as tie
-use Rattle.checker.proofs.judge.Reads as reads
-use Rattle.checker.proofs.judge.Lts as lts
-use Rattle.anf.proofs.points.Reads as points-reads
-use Rattle.anf.proofs.repeats.Reads as repeats-reads
-use Rattle.checker.proofs.give.Reads as give-reads
-use Rattle.checker.proofs.judge_stages.Reads as judge-stages-reads
-use Rattle.checker.proofs.marks.clear.Reads as clear-reads
-use Rattle.checker.proofs.tables.chain_is_box.Reads as chain-is-box-reads
-use Rattle.checker.proofs.tables.first_repeating.Reads as first-repeating-reads
-use Rattle.design.proofs.box_table.Reads as box-table-reads
-use Rattle.design.proofs.read.Reads as read-reads
 
 read-requires : tie.Need-read-requires
 read-requires c κs = search needs

@@ -1,23 +1,13 @@
 use borrow.Author.Needs.{needs}
 -- `judge_stage` meets its contract, case by case; the marks are as they were, since they are zero before and after.
-use mathlib.Core.Path.{_≡_, refl, sym, ap, _∙_}
-use mathlib.Core.Bool.{Bool, true, false}
-use Prim.Native.Nat.{ℕ, _+_, _-_, _*_, _/_, _%_, _^_, _<_, _≤_}
+use mathlib.Core.Path.{refl, _∙_}
+use Prim.Native.Nat.{_-_}
 use native.Mathlib.Omega.{arith}
-use native.Mathlib.Nat.{not-suc-le-zero}
-use lib.ListN.{length, getD, set, length-set}
 use borrow.Author.Needs.{needs}
 use borrow.Author.Tests.{not-true, not-false}
-use Rattle.design.proofs.Answered.{described}
 use Rattle.checker.proofs.Answering.{answer-wrong, answer-reads, answer-twice, answer-fine}
 use Rattle.checker.proofs.judge_stage.Statement.{statement}
 use Rattle.checker.proofs.judge_stage.Tie as tie
-use Rattle.checker.proofs.judge_stage.Reads as reads
-use Rattle.checker.proofs.judge_stage.Lts as lts
-use Rattle.checker.proofs.give.Reads as give-reads
-use Rattle.checker.proofs.stages.correct_stage.Reads as correct-stage-reads
-use Rattle.checker.proofs.stages.meets_twice.Reads as meets-twice-reads
-use Rattle.checker.proofs.stages.offending.Reads as offending-reads
 
 correct-stage-requires : tie.Need-correct-stage-requires
 correct-stage-requires c κs = search needs

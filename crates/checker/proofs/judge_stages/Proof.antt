@@ -1,23 +1,14 @@
 -- `judge_stages` meets its contract: the stages passed have no fault, so the verdict is that of the rest.
-use mathlib.Core.Path.{_≡_, refl, sym, ap, _∙_}
-use mathlib.Core.Bool.{Bool, true, false}
-use Prim.Native.Nat.{ℕ, _+_, _-_, _*_, _/_, _%_, _^_, _<_, _≤_}
+use mathlib.Core.Path.{_≡_, refl, ap, _∙_}
+use Prim.Native.Nat.{_-_, _≤_}
 use native.Mathlib.Omega.{arith}
-use native.Mathlib.Nat.{not-suc-le-zero}
-use lib.ListN.{length, getD, set, length-set}
+use lib.ListN.{length}
 use borrow.Author.Needs.{needs}
-use mathlib.Core.List.{_++_}
-use lib.ListN.{drop, replicate}
 use Rattle.design.specs.Reading.{meaning}
-use Rattle.checker.specs.Marks.{zeroed, marksOf}
 use Rattle.checker.proofs.Steps.{stagesFrom, stages-all}
 use Rattle.checker.proofs.Answering.{stagesVerdict, stages-done, stages-stop, stages-go}
 use Rattle.checker.proofs.judge_stages.Statement.{statement}
 use Rattle.checker.proofs.judge_stages.Tie as tie
-use Rattle.checker.proofs.judge_stages.Reads as reads
-use Rattle.checker.proofs.judge_stages.Lts as lts
-use Rattle.checker.proofs.give.Reads as give-reads
-use Rattle.checker.proofs.judge_stage.Reads as judge-stage-reads
 
 abbrev Inv-loop : tie.InvT-loop
 Inv-loop file layout workspace₀ k t₀ workspace t = (t ≤ k) × (stagesVerdict file ≡ stagesFrom (meaning file) t) × (workspace ≡ workspace₀)
@@ -29,7 +20,7 @@ loop-holds : tie.Need-loop-holds Inv-loop μ-loop
 loop-holds c = (omega arith, stages-all _, refl)
 
 judge-stage-requires : tie.Need-judge-stage-requires Inv-loop μ-loop
-judge-stage-requires c κs = (c .before .before .before .before .before .pre .0, c .before .loop-test .taken, rw (c .before .before .loop .inv .2) (c .before .before .before .before .before .pre .1), rw (c .before .before .loop .inv .2) (c .before .before .before .before .before .pre .2), c .before .before .before .before .before .pre .3)
+judge-stage-requires c κs = (c .before .before .before .before .before .pre .0, omega arith, rw (c .before .before .loop .inv .2) (c .before .before .before .before .before .pre .1), rw (c .before .before .loop .inv .2) (c .before .before .before .before .before .pre .2), c .before .before .before .before .before .pre .3)
 
 same-length : tie.Need-same-length Inv-loop μ-loop
 same-length c = ap length (c .before .before .before .before .judge-stage .ensures .1 ∙ c .before .before .before .before .before .before .before .loop .inv .2)

@@ -1,13 +1,12 @@
-use mathlib.Core.Path.{_≡_, refl, sym, ap, _∙_}
+-- `clear` meets its contract: the bytes passed are zero, the rest is as it was.
+use mathlib.Core.Path.{_≡_, refl}
 use mathlib.Core.List.{_++_}
-use Prim.Native.Nat.{ℕ, _+_, _-_, _<_, _≤_, _/_, _%_}
+use Prim.Native.Nat.{_+_, _-_, _≤_}
 use native.Mathlib.Omega.{arith}
-use lib.ListN.{length, drop, set, replicate, length-set}
-use borrow.Author.Fill.{fill-none, fill-more}
+use lib.ListN.{length, drop, replicate, length-set}
+use borrow.Author.Fill.{fill-more}
 use Rattle.checker.proofs.marks.clear.Statement.{statement}
 use Rattle.checker.proofs.marks.clear.Tie as tie
-use Rattle.checker.proofs.marks.clear.Reads as reads
-use Rattle.checker.proofs.marks.clear.Lts as lts
 
 abbrev Inv-loop : tie.InvT-loop
 Inv-loop marks₀ n i₀ marks i = (i ≤ n) × (length marks ≡ length marks₀) × (marks ≡ replicate i 0 ++ drop i marks₀)

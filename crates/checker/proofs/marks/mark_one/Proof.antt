@@ -1,6 +1,7 @@
-use mathlib.Core.Path.{refl, _∙_, sym, ap}
-use Prim.Native.Nat.{ℕ, _%_, _/_}
-use native.Mathlib.Nat.{one-mul, mod-lt, zero-lt-suc}
+-- `mark_one` meets its contract: the shift loses no bit.
+use mathlib.Core.Path.{refl}
+use Prim.Native.Nat.{_%_}
+use native.Mathlib.Nat.{one-mul}
 use native.Mathlib.Omega.{arith}
 use lib.Dec.{lit<}
 use lib.Pow.{shl-exact}
@@ -8,8 +9,6 @@ use Rattle.checker.specs.Marks.{marked, mark}
 use borrow.Author.Needs.{needs}
 use Rattle.checker.proofs.marks.mark_one.Statement.{statement}
 use Rattle.checker.proofs.marks.mark_one.Tie as tie
-use Rattle.checker.proofs.marks.mark_one.Reads as reads
-use Rattle.checker.proofs.marks.mark_one.Lts as lts
 
 slice-read-b : tie.Need-slice-read-b
 slice-read-b c = search needs

@@ -1,18 +1,13 @@
 use borrow.Author.Needs.{needs}
 -- `agrees` meets its contract.
-use mathlib.Core.Path.{_≡_, refl, sym, ap, ap₂, _∙_}
+use mathlib.Core.Path.{ap₂}
 use lib.Dec.{eqb}
-use mathlib.Core.Bool.{Bool, true, false}
-use Prim.Native.Nat.{ℕ, _+_, _-_, _*_, _/_, _%_, _^_, _<_, _≤_}
+use Prim.Native.Nat.{ℕ, _-_}
 use native.Mathlib.Omega.{arith}
-use native.Mathlib.Nat.{not-suc-le-zero}
-use lib.ListN.{length, getD, set, length-set}
+use lib.ListN.{getD}
 use borrow.Author.Needs.{needs}
 use Rattle.checker.proofs.stages.agrees.Statement.{statement}
 use Rattle.checker.proofs.stages.agrees.Tie as tie
-use Rattle.checker.proofs.stages.agrees.Reads as reads
-use Rattle.checker.proofs.stages.agrees.Lts as lts
-use Rattle.threshold.proofs.sum_of.Reads as sum-of-reads
 
 sum-of-requires : tie.Need-sum-of-requires
 sum-of-requires c κs = search needs

@@ -1,11 +1,9 @@
 -- `correct_stage` meets its contract: every sharing passed sums to what it should.
 use mathlib.Core.Path.{_≡_, refl, sym, ap, _∙_}
-use mathlib.Core.Bool.{Bool, true, false}
-use Prim.Native.Nat.{ℕ, _+_, _-_, _*_, _/_, _%_, _^_, _<_, _≤_}
+use mathlib.Core.Bool.{true}
+use Prim.Native.Nat.{ℕ, _-_, _≤_}
 use native.Mathlib.Omega.{arith}
-use native.Mathlib.Nat.{not-suc-le-zero}
-use lib.ListN.{length, getD, set, length-set}
-use borrow.Author.Needs.{needs}
+use lib.ListN.{getD}
 use borrow.Author.Tests.{not-true, not-false}
 use lib.Dec.{eqb}
 use Rattle.anf.specs.Tests.{all}
@@ -16,13 +14,6 @@ use Rattle.threshold.specs.Records.{listsOf}
 use Rattle.checker.proofs.Judging.{agreesAt, wrong-lists, right-lists, table-points}
 use Rattle.checker.proofs.stages.correct_stage.Statement.{statement}
 use Rattle.checker.proofs.stages.correct_stage.Tie as tie
-use Rattle.checker.proofs.stages.correct_stage.Reads as reads
-use Rattle.checker.proofs.stages.correct_stage.Lts as lts
-use Rattle.checker.proofs.stages.agrees.Reads as agrees-reads
-use Rattle.checker.proofs.stages.sharings.Reads as sharings-reads
-use Rattle.design.proofs.table.Reads as table-reads
-use Rattle.threshold.proofs.lists.Reads as lists-reads
-use Rattle.threshold.proofs.output_of.Reads as output-of-reads
 
 abbrev Inv-loop : tie.InvT-loop
 Inv-loop file t m s n table records bits x₀ x = (x ≤ n) × (all x (agreesAt m s (listsOf bits records) table) ≡ true)

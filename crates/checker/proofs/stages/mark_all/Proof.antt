@@ -1,27 +1,16 @@
 -- `mark_all` meets its contract: the outputs of the sharings passed are marked, none of them twice.
-use mathlib.Core.Path.{_≡_, refl, sym, ap, _∙_}
-use mathlib.Core.Bool.{Bool, true, false}
-use Prim.Native.Nat.{ℕ, _+_, _-_, _*_, _/_, _%_, _^_, _<_, _≤_}
+use mathlib.Core.Path.{_≡_, sym, ap, _∙_}
+use Prim.Native.Nat.{ℕ, _-_, _^_}
 use native.Mathlib.Omega.{arith}
-use native.Mathlib.Nat.{not-suc-le-zero}
-use lib.ListN.{length, getD, set, length-set}
-use borrow.Author.Needs.{needs}
 use mathlib.Core.List.{List}
-use lib.ListN.{drop}
 use Rattle.design.proofs.Answered.{described}
 use Rattle.threshold.specs.Stages.{output}
 use Rattle.threshold.specs.Records.{listsOf}
-use Rattle.checker.specs.Marks.{marked, mark, repeatsBy, sharingsOf}
+use Rattle.checker.specs.Marks.{repeatsBy, sharingsOf}
 use Rattle.checker.proofs.Marking.{Run, run-start, run-found, run-step, run-rest}
 use Rattle.checker.proofs.Judging.{sharings-whole}
 use Rattle.checker.proofs.stages.mark_all.Statement.{statement}
 use Rattle.checker.proofs.stages.mark_all.Tie as tie
-use Rattle.checker.proofs.stages.mark_all.Reads as reads
-use Rattle.checker.proofs.stages.mark_all.Lts as lts
-use Rattle.checker.proofs.marks.mark_one.Reads as mark-one-reads
-use Rattle.checker.proofs.stages.sharings.Reads as sharings-reads
-use Rattle.threshold.proofs.lists.Reads as lists-reads
-use Rattle.threshold.proofs.output_of.Reads as output-of-reads
 
 abbrev Inv-loop : tie.InvT-loop
 Inv-loop file t workspace₀ n records bits x₀ workspace x = Run (2 ^ bits) (output (listsOf bits records)) workspace₀ workspace x
@@ -35,8 +24,8 @@ sharings-requires c κs = described (c .before .before .pre .0) .bounds .bits
 lists-requires : tie.Need-lists-requires Inv-loop μ-loop
 lists-requires c κs = (c .before .before .before .pre .0, c .before .before .before .pre .1)
 
-mul-bits : tie.Need-mul-bits Inv-loop μ-loop
-mul-bits c = let b = described (c .before .before .before .before .before .pre .0) .bounds .bits in omega arith
+mul-count : tie.Need-mul-count Inv-loop μ-loop
+mul-count c = let b = described (c .before .before .before .before .before .pre .0) .bounds .bits in omega arith
 
 loop-holds : tie.Need-loop-holds Inv-loop μ-loop
 loop-holds c = run-start _ _ _ (c .before .before .before .before .before .pre .3)
@@ -79,7 +68,7 @@ mark-all-spec =
     μ-loop
     sharings-requires
     lists-requires
-    mul-bits
+    mul-count
     loop-holds
     output-of-requires
     cast-mark-one

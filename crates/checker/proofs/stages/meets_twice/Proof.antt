@@ -1,25 +1,14 @@
 use borrow.Author.Needs.{needs}
 -- `meets_twice` meets its contract: cleared, marked within what was cleared, and cleared again.
-use mathlib.Core.Path.{_≡_, refl, sym, ap, _∙_}
-use mathlib.Core.Bool.{Bool, true, false}
-use Prim.Native.Nat.{ℕ, _+_, _-_, _*_, _/_, _%_, _^_, _<_, _≤_}
+use mathlib.Core.Path.{ap}
+use Prim.Native.Nat.{ℕ, _-_, _/_}
 use native.Mathlib.Omega.{arith}
-use native.Mathlib.Nat.{not-suc-le-zero}
-use lib.ListN.{length, getD, set, length-set}
 use borrow.Author.Needs.{needs}
-use mathlib.Core.List.{_++_}
-use lib.ListN.{drop, replicate}
 use Rattle.design.proofs.Answered.{described}
-use Rattle.checker.specs.Marks.{marksOf}
 use Rattle.checker.proofs.Marking.{clear-none, cleared-again}
 use Rattle.checker.proofs.Judging.{sharings-whole}
 use Rattle.checker.proofs.stages.meets_twice.Statement.{statement}
 use Rattle.checker.proofs.stages.meets_twice.Tie as tie
-use Rattle.checker.proofs.stages.meets_twice.Reads as reads
-use Rattle.checker.proofs.stages.meets_twice.Lts as lts
-use Rattle.checker.proofs.marks.clear.Reads as clear-reads
-use Rattle.checker.proofs.stages.mark_all.Reads as mark-all-reads
-use Rattle.checker.proofs.stages.sharings.Reads as sharings-reads
 
 sharings-requires : tie.Need-sharings-requires
 sharings-requires c κs = described (c .before .before .pre .0) .bounds .bits

@@ -1,13 +1,11 @@
 -- `offending` meets its contract. Components passed do not depend on their own share, lists passed name none of its variables, nor do terms passed.
 use mathlib.Core.Path.{_≡_, refl, sym, ap, _∙_}
-use mathlib.Core.Bool.{Bool, true, false}
-use Prim.Native.Nat.{ℕ, _+_, _-_, _*_, _/_, _%_, _^_, _<_, _≤_}
+use mathlib.Core.Bool.{false}
+use Prim.Native.Nat.{_-_, _≤_}
 use native.Mathlib.Omega.{arith}
-use native.Mathlib.Nat.{not-suc-le-zero}
-use lib.ListN.{length, getD, set, length-set}
+use lib.ListN.{getD}
 use borrow.Author.Needs.{needs}
-use native.Mathlib.Nat.{mul-le-mul}
-use Rattle.anf.specs.Tests.{any, first}
+use Rattle.anf.specs.Tests.{any}
 use Rattle.anf.proofs.Testing.{any-none-more, first-found, first-none}
 use Rattle.design.specs.Bytes.{terms}
 use Rattle.design.proofs.Answered.{described}
@@ -16,13 +14,6 @@ use Rattle.checker.specs.Marks.{named}
 use Rattle.checker.proofs.Judging.{listNames, dependsOwn, list-names, list-names-none, depends-some, depends-none}
 use Rattle.checker.proofs.stages.offending.Statement.{statement}
 use Rattle.checker.proofs.stages.offending.Tie as tie
-use Rattle.checker.proofs.stages.offending.Reads as reads
-use Rattle.checker.proofs.stages.offending.Lts as lts
-use Rattle.checker.proofs.stages.names_one.Reads as names-one-reads
-use Rattle.checker.proofs.stages.own_variables.Reads as own-variables-reads
-use Rattle.design.proofs.list.Reads as list-reads
-use Rattle.design.proofs.count.Reads as count-reads
-use Rattle.design.proofs.term.Reads as term-reads
 
 abbrev Inv-loop2 : tie.InvT-loop2
 Inv-loop2 file layout t m s found₀ j own b list n i₀ found i = (i ≤ n) × (found ≡ found₀) × (any i (λ k. named own (getD (terms list) k 0)) ≡ false)

@@ -1,20 +1,13 @@
 use borrow.Author.Needs.{needs}
 -- `own_variables` meets its contract: the shift loses no bit.
-use mathlib.Core.Path.{_≡_, refl, sym, ap, _∙_}
-use mathlib.Core.Bool.{Bool, true, false}
-use Prim.Native.Nat.{ℕ, _+_, _-_, _*_, _/_, _%_, _^_, _<_, _≤_}
+use Prim.Native.Nat.{ℕ, _-_, _*_, _<_, _≤_}
 use native.Mathlib.Omega.{arith}
-use native.Mathlib.Nat.{not-suc-le-zero}
-use lib.ListN.{length, getD, set, length-set}
 use borrow.Author.Needs.{needs}
 use native.Mathlib.Nat.{mul-le-mul}
-use lib.Pow.{shl-exact, pow-pos, pow-mono, pow-sub-lt}
+use lib.Pow.{shl-exact, pow-pos, pow-mono}
 use Rattle.threshold.specs.Sharing.{variables}
 use Rattle.checker.proofs.stages.own_variables.Statement.{statement}
 use Rattle.checker.proofs.stages.own_variables.Tie as tie
-use Rattle.checker.proofs.stages.own_variables.Reads as reads
-use Rattle.checker.proofs.stages.own_variables.Lts as lts
-use Rattle.anf.proofs.points.Reads as points-reads
 
 -- the place of the last share
 most : (m j : ℕ) → m ≤ 6 → j < 5 → m * j ≤ 24

@@ -1,18 +1,11 @@
 use borrow.Author.Needs.{needs}
 -- `sharings` meets its contract.
-use mathlib.Core.Path.{_≡_, refl, sym, ap, _∙_}
-use mathlib.Core.Bool.{Bool, true, false}
-use Prim.Native.Nat.{ℕ, _+_, _-_, _*_, _/_, _%_, _^_, _<_, _≤_}
+use Prim.Native.Nat.{_-_, _≤_}
 use native.Mathlib.Omega.{arith}
-use native.Mathlib.Nat.{not-suc-le-zero}
-use lib.ListN.{length, getD, set, length-set}
 use borrow.Author.Needs.{needs}
 use lib.Pow.{pow-mono}
 use Rattle.checker.proofs.stages.sharings.Statement.{statement}
 use Rattle.checker.proofs.stages.sharings.Tie as tie
-use Rattle.checker.proofs.stages.sharings.Reads as reads
-use Rattle.checker.proofs.stages.sharings.Lts as lts
-use Rattle.anf.proofs.points.Reads as points-reads
 
 mul-points : tie.Need-mul-points
 mul-points c = search needs

@@ -1,19 +1,13 @@
 -- `chain_is_box` meets its contract: up to the place reached the composed table and S agree.
-use mathlib.Core.Path.{_≡_, refl, sym, ap, _∙_}
-use mathlib.Core.Bool.{Bool, true, false}
-use Prim.Native.Nat.{ℕ, _+_, _-_, _*_, _/_, _%_, _^_, _<_, _≤_}
+use mathlib.Core.Path.{_≡_, refl, sym}
+use mathlib.Core.Bool.{true}
+use Prim.Native.Nat.{_-_, _≤_}
 use native.Mathlib.Omega.{arith}
-use native.Mathlib.Nat.{not-suc-le-zero}
-use lib.ListN.{length, getD, set, length-set}
-use borrow.Author.Needs.{needs}
+use lib.ListN.{length}
 use Rattle.anf.specs.Tests.{all}
 use Rattle.checker.proofs.Composing.{sameTo, points-most, box-size, same-next, same-not, same-all}
 use Rattle.checker.proofs.tables.chain_is_box.Statement.{statement}
 use Rattle.checker.proofs.tables.chain_is_box.Tie as tie
-use Rattle.checker.proofs.tables.chain_is_box.Reads as reads
-use Rattle.checker.proofs.tables.chain_is_box.Lts as lts
-use Rattle.checker.proofs.tables.composed.Reads as composed-reads
-use Rattle.design.proofs.box_table.Reads as box-table-reads
 
 abbrev Inv-loop : tie.InvT-loop
 Inv-loop file c s-box x₀ x = (x ≤ length s-box) × (sameTo file x ≡ true)

@@ -1,21 +1,11 @@
 -- `composed` meets its contract: the bytes hold what the tables of the stages passed make of their places.
-use mathlib.Core.Path.{_≡_, refl, sym, ap, _∙_}
-use mathlib.Core.Bool.{Bool, true, false}
-use Prim.Native.Nat.{ℕ, _+_, _-_, _*_, _/_, _%_, _^_, _<_, _≤_}
+use Prim.Native.Nat.{_-_, _≤_}
 use native.Mathlib.Omega.{arith}
-use native.Mathlib.Nat.{not-suc-le-zero}
-use lib.ListN.{length, getD, set, length-set}
 use borrow.Author.Needs.{needs}
 use Rattle.checker.proofs.Composing.{ComposedTo, points-most, composed-start, composed-within, composed-step, composed-end}
 use Rattle.design.proofs.Answered.{described}
 use Rattle.checker.proofs.tables.composed.Statement.{statement}
 use Rattle.checker.proofs.tables.composed.Tie as tie
-use Rattle.checker.proofs.tables.composed.Reads as reads
-use Rattle.checker.proofs.tables.composed.Lts as lts
-use Rattle.anf.proofs.points.Reads as points-reads
-use Rattle.checker.proofs.tables.identity.Reads as identity-reads
-use Rattle.checker.proofs.tables.through.Reads as through-reads
-use Rattle.design.proofs.table.Reads as table-reads
 
 abbrev Inv-loop : tie.InvT-loop
 Inv-loop file layout n k c₀ t₀ c t = (t ≤ k) × ComposedTo file t c

@@ -1,21 +1,15 @@
 -- `first_repeating` meets its contract: no table passed repeats an entry.
-use mathlib.Core.Path.{_≡_, refl, sym, ap, _∙_}
-use Prim.Native.Nat.{ℕ, _+_, _-_, _*_, _^_, _<_, _≤_}
+use mathlib.Core.Path.{_≡_, refl, sym, _∙_}
+use Prim.Native.Nat.{_-_, _≤_}
 use native.Mathlib.Omega.{arith}
-use native.Mathlib.Nat.{not-suc-le-zero}
-use lib.ListN.{length, getD, set, length-set}
 use borrow.Author.Needs.{needs}
-use mathlib.Core.Bool.{Bool, true, false}
+use mathlib.Core.Bool.{false}
 use Rattle.anf.specs.Tests.{any}
 use Rattle.anf.proofs.Testing.{any-none-more}
 use Rattle.design.specs.Reading.{meaning}
 use Rattle.checker.proofs.Repeating.{tableRepeats, table-repeats, repeating-found, repeating-none}
 use Rattle.checker.proofs.tables.first_repeating.Statement.{statement}
 use Rattle.checker.proofs.tables.first_repeating.Tie as tie
-use Rattle.checker.proofs.tables.first_repeating.Reads as reads
-use Rattle.checker.proofs.tables.first_repeating.Lts as lts
-use Rattle.anf.proofs.repeats.Reads as repeats-reads
-use Rattle.design.proofs.table.Reads as table-reads
 
 abbrev Inv-loop : tie.InvT-loop
 Inv-loop file layout k t₀ t = (t ≤ k) × (any t (tableRepeats (meaning file)) ≡ false)

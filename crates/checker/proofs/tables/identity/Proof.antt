@@ -1,15 +1,12 @@
 -- `identity` meets its contract: each place passed holds its own number.
-use mathlib.Core.Path.{_≡_, refl, sym, ap, _∙_}
-use Prim.Native.Nat.{ℕ, _+_, _-_, _*_, _^_, _<_, _≤_}
+use mathlib.Core.Path.{_≡_, refl}
+use Prim.Native.Nat.{ℕ, _-_, _<_, _≤_}
 use native.Mathlib.Omega.{arith}
 use native.Mathlib.Nat.{not-suc-le-zero}
-use lib.ListN.{length, getD, set, length-set}
-use borrow.Author.Needs.{needs}
+use lib.ListN.{length, getD, length-set}
 use Rattle.checker.proofs.Composing.{filled-more}
 use Rattle.checker.proofs.tables.identity.Statement.{statement}
 use Rattle.checker.proofs.tables.identity.Tie as tie
-use Rattle.checker.proofs.tables.identity.Reads as reads
-use Rattle.checker.proofs.tables.identity.Lts as lts
 
 abbrev Inv-loop : tie.InvT-loop
 Inv-loop c₀ x₀ c x = (x ≤ 64) × (length c ≡ 64) × ((y : ℕ) → y < x → getD c y 0 ≡ y)

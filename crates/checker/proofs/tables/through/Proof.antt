@@ -1,16 +1,13 @@
 -- `through` meets its contract: each place passed holds what the table makes of the entry there.
-use mathlib.Core.Path.{_≡_, refl, sym, ap, _∙_}
-use Prim.Native.Nat.{ℕ, _+_, _-_, _*_, _^_, _<_, _≤_}
+use mathlib.Core.Path.{_≡_, refl, ap}
+use Prim.Native.Nat.{ℕ, _-_, _<_, _≤_}
 use native.Mathlib.Omega.{arith}
 use native.Mathlib.Nat.{not-suc-le-zero}
-use lib.ListN.{length, getD, set, length-set}
+use lib.ListN.{length, getD, length-set}
 use borrow.Author.Needs.{needs}
 use Rattle.checker.proofs.Composing.{filled-more}
 use Rattle.checker.proofs.tables.through.Statement.{statement}
 use Rattle.checker.proofs.tables.through.Tie as tie
-use Rattle.checker.proofs.tables.through.Reads as reads
-use Rattle.checker.proofs.tables.through.Lts as lts
-use Rattle.checker.proofs.tables.wide.Reads as wide-reads
 
 abbrev Inv-loop : tie.InvT-loop
 Inv-loop table n from out₀ x₀ out x = (x ≤ n) × (length out ≡ 64) × ((y : ℕ) → y < x → getD out y 0 ≡ getD table (getD from y 0) 0)
