@@ -1,8 +1,8 @@
 -- What producing answers and leaves, one law for each way out.
 use mathlib.Core.Path.{_≡_, refl, sym, ap, ap₂, _∙_, subst}
 use mathlib.Core.Bool.{Bool, true, false, not, _&&_}
-use mathlib.Core.List.{List, [], _∷_, _++_}
-use Prim.Native.Nat.{ℕ, zero, suc, _+_, _-_, _*_, _/_, _%_, _^_, _≤_, _<_}
+use mathlib.Core.List.{List, _++_}
+use Prim.Native.Nat.{ℕ, _+_, _-_, _*_, _/_, _%_, _^_, _≤_, _<_}
 use native.Mathlib.Omega.{arith}
 use lib.Pow.{pow-mono}
 use lib.Dec.{eqb, ltb, leb}
@@ -21,7 +21,6 @@ use Rattle.design.specs.Design.{entry}
 use Rattle.design.specs.Bytes.{overwrite}
 use Rattle.design.specs.Layout.{checked}
 use Rattle.design.specs.declared.Head.{Head}
-use Rattle.design.specs.declared.Checked.{Checked}
 use Rattle.design.specs.declared.Checked.the-variants.{Good, Beyond}
 use Rattle.design.proofs.Limits.{bounds}
 use Rattle.design.proofs.Overwriting.{overwrite-front}

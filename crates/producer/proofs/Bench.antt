@@ -1,8 +1,8 @@
 -- The bench designs of producing: every row of the table, by computing; and the products of xy that go to component 1.
 use Prim.Native.Nat.{ℕ, _^_}
 use mathlib.Core.Path.{_≡_, refl}
-use mathlib.Core.Bool.{Bool, _&&_}
-use mathlib.Core.List.{List, [], _∷_, map}
+use mathlib.Core.Bool.{_&&_}
+use mathlib.Core.List.{[], _∷_, map}
 use lib.Dec.{eqb}
 use lib.Count.{ones}
 use lib.ListN.{length}
@@ -14,7 +14,6 @@ use Rattle.anf.specs.Tables.{entriesBelow, repeats}
 use Rattle.design.specs.Limits.{broken}
 use Rattle.design.specs.Bytes.{termBytes}
 use Rattle.design.specs.Encode.{join, aRecord, stageBytes, encode}
-use Rattle.design.specs.Design.{entry}
 use Rattle.threshold.specs.Sharing.{share}
 use Rattle.producer.specs.Direct.{has, isProduct, chosen, componentFor, stands, directList, directLists, directStage, directSharing}
 use Rattle.producer.specs.Producing.{produced, producedReason, producing, outputAfter}

@@ -1,10 +1,10 @@
 -- One variable more, and a share chosen for it: the products of the variables below v + 1 on top of p are those of the variables below v on top of p with
 -- one share's bit of v, share by share, and no two shares give the same.
-use mathlib.Core.Path.{_≡_, refl, sym, ap, ap₂, _∙_, subst}
-use mathlib.Core.Logic.{_⊎_, inl, inr, ⊎-elim, _≢_}
-use mathlib.Core.Bool.{Bool, true, false, not, _&&_, _||_}
-use Prim.Native.Nat.{ℕ, zero, suc, _+_, _-_, _*_, _/_, _%_, _^_, _≤_, _<_}
-use native.Mathlib.Nat.{mod-lt, div-add-mod', div-lt-iff-lt-mul, mul-comm, mod-eq-of-lt, div-eq-of-lt}
+use mathlib.Core.Path.{_≡_, refl, sym, ap, ap₂, _∙_}
+use mathlib.Core.Logic.{_≢_}
+use mathlib.Core.Bool.{Bool, true, false, not, _||_}
+use Prim.Native.Nat.{ℕ, suc, _+_, _-_, _*_, _/_, _%_, _^_, _≤_, _<_}
+use native.Mathlib.Nat.{mod-lt, div-add-mod', div-lt-iff-lt-mul, mul-comm, div-eq-of-lt}
 use native.Mathlib.Decide.{decLt, ℕ-discrete}
 use native.Mathlib.Omega.{arith}
 use lib.Arith.{digits-div, digits-mod}
@@ -12,13 +12,13 @@ use lib.Pow.{pow-pos, pow-lt, pow-add, shl-shr, high}
 use lib.Dec.{eqb, ltb}
 use lib.Bits.{bitOr, or-shr, or-mod, or-lt}
 use borrow.Author.Tests.{eqb-true, eqb-false, eq-eqb, ne-eqb, not-true, lt-ltb, le-ltb}
-use Rattle.anf.specs.Tests.{pick, bit, all, any, count, total}
-use Rattle.anf.proofs.Testing.{bool-ext, true-or-false, not-true-false, clash, all-at, all-intro, any-at, any-some, any-congr, none-any, pick-true, pick-false, or-cases, or-left, or-right}
+use Rattle.anf.specs.Tests.{pick, bit, all, any, count}
+use Rattle.anf.proofs.Testing.{bool-ext, not-true-false, clash, all-at, all-intro, any-at, any-some, any-congr, none-any, pick-true, pick-false, or-right}
 use Rattle.anf.proofs.Counting.{count-one, count-some, count-unique, count-none, count-has}
 use Rattle.anf.proofs.Xor.{bit-cases}
 use Rattle.threshold.specs.Sharing.{share}
 use Rattle.producer.specs.Direct.{has, isProduct, chosen}
-use Rattle.producer.proofs.Elements.{has-none, has-congr, has-is, sets-eq, some-element, share-lt, share-has, place-lt}
+use Rattle.producer.proofs.Elements.{has-none, sets-eq, some-element, share-lt, share-has, place-lt}
 use Rattle.producer.proofs.Products.{product-at, at-product}
 use Rattle.producer.proofs.Placement.{chosen-lt, chosen-has}
 

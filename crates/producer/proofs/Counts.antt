@@ -1,12 +1,11 @@
 -- How many products there are: s^d for a term of d variables, and (s + 1)^m for all terms in m variables.
-use mathlib.Core.Path.{_≡_, refl, sym, ap, ap₂, _∙_, subst}
-use mathlib.Core.Logic.{_⊎_, inl, inr, ⊎-elim, _≢_}
-use mathlib.Core.Bool.{Bool, true, false, not, _&&_, _||_}
-use Prim.Native.Nat.{ℕ, zero, suc, _+_, _-_, _*_, _/_, _%_, _^_, _≤_, _<_, zero-le}
-use native.Mathlib.Nat.{mul-comm, mul-suc, mul-add, add-comm, zero-mul, pow-zero, pow-suc, add-zero, add-suc, mul-zero, suc-mul, zero-add}
+use mathlib.Core.Path.{_≡_, refl, sym, ap, ap₂, _∙_}
+use mathlib.Core.Logic.{_⊎_, inl, inr}
+use mathlib.Core.Bool.{Bool, true, false, _&&_, _||_}
+use Prim.Native.Nat.{ℕ, zero, suc, _+_, _-_, _*_, _^_, _≤_, _<_}
+use native.Mathlib.Nat.{mul-comm, mul-add, add-comm, zero-mul, pow-zero, pow-suc, add-zero, add-suc, mul-zero, suc-mul}
 use native.Mathlib.Omega.{arith}
 use lib.Arith.{lt-one}
-use lib.Pow.{pow-pos}
 use lib.Dec.{eqb}
 use lib.Bits.{bitXor, xor-lt}
 use lib.Count.{ones, ones-cat}
@@ -14,7 +13,7 @@ use borrow.Author.Tests.{eqb-true, eqb-false}
 use Rattle.anf.specs.Tests.{pick, bit, any, count, total}
 use Rattle.anf.specs.NormalForm.{subset}
 use Rattle.anf.proofs.Testing.{true-or-false, any-some}
-use Rattle.anf.proofs.Counting.{total-congr, total-zero, total-add, total-mono, count-congr, count-has}
+use Rattle.anf.proofs.Counting.{total-congr, total-zero, total-add, total-mono, count-has}
 use Rattle.anf.proofs.Subsets.{Top, low, top, top-cases, xor-top-low, subset-low-top, subset-top-top, subset-top-low, subset-self}
 use Rattle.producer.specs.Direct.{has, isProduct}
 use Rattle.producer.proofs.Elements.{ones-count, some-element}

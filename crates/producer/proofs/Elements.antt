@@ -1,19 +1,19 @@
 -- The elements of a set that is a number: numbers with the same bits are equal, and subsets, xor, shares and blocks are told by bits.
-use mathlib.Core.Path.{_≡_, refl, sym, ap, ap₂, _∙_, subst}
-use mathlib.Core.Logic.{_⊎_, inl, inr, ⊎-elim, _≢_}
+use mathlib.Core.Path.{_≡_, refl, sym, ap, ap₂, _∙_}
+use mathlib.Core.Logic.{_⊎_, ⊎-elim, _≢_}
 use mathlib.Core.Bool.{Bool, true, false, not, _&&_}
-use Prim.Native.Nat.{ℕ, zero, suc, _+_, _-_, _*_, _/_, _%_, _^_, _≤_, _<_, min}
-use native.Mathlib.Nat.{mod-lt, div-one, mod-one, mul-comm, pow-suc, div-div-eq-div-mul, mod-eq-of-lt, div-eq-of-lt, zero-div, zero-mod, div-lt-iff-lt-mul, mul-le-mul-right, mul-suc, zero-lt-suc}
+use Prim.Native.Nat.{ℕ, zero, suc, _+_, _-_, _*_, _/_, _%_, _^_, _<_}
+use native.Mathlib.Nat.{mod-lt, div-one, mul-comm, pow-suc, div-div-eq-div-mul, mod-eq-of-lt, zero-div, div-lt-iff-lt-mul, mul-le-mul-right}
 use native.Mathlib.Omega.{arith}
 use lib.Arith.{lt-one}
-use lib.Pow.{pow-pos, pow-add, shr-shr, field, high, low, split, mod-mod-pow}
+use lib.Pow.{pow-pos, shr-shr, field, high, low, split, mod-mod-pow}
 use lib.Dec.{eqb}
-use lib.Bits.{bitAnd, bitXor, differ, and-shr, and-mod, and-lt, and-block}
-use lib.Count.{ones, ones-step, ones-cat}
-use borrow.Author.Tests.{eqb-true, eq-eqb, ne-eqb, eqb-false}
-use Rattle.anf.specs.Tests.{pick, implies, all, any, bit, count, total}
+use lib.Bits.{bitAnd, bitXor, and-mod, and-block}
+use lib.Count.{ones, ones-cat}
+use borrow.Author.Tests.{eqb-true, eq-eqb}
+use Rattle.anf.specs.Tests.{implies, all, any, bit, count, total}
 use Rattle.anf.specs.NormalForm.{subset}
-use Rattle.anf.proofs.Testing.{bool-ext, true-or-false, clash, and-intro, and-left, and-right, implies-at, implies-intro, all-at, all-intro, any-none}
+use Rattle.anf.proofs.Testing.{bool-ext, true-or-false, and-intro, and-left, and-right, implies-at, implies-intro, all-at, all-intro, any-none}
 use Rattle.anf.proofs.Xor.{bit-cases, digits-eq, xor-bit, and-bit}
 use Rattle.anf.proofs.Subsets.{subset-eq, eq-subset, subset-iff}
 use Rattle.threshold.specs.Sharing.{share}

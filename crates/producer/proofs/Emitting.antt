@@ -1,19 +1,17 @@
 -- The emission of products, as the recursion over the variables left makes it: by cases of the next variable, and share by share.
-use mathlib.Core.Path.{_≡_, refl, sym, ap, ap₂, _∙_, subst}
-use mathlib.Core.Bool.{Bool, true, false}
+use mathlib.Core.Path.{_≡_, refl, sym, ap, _∙_, subst}
+use mathlib.Core.Bool.{true, false}
 use mathlib.Core.List.{List, [], _∷_, _++_}
 use Prim.Native.Nat.{ℕ, zero, suc, _+_, _-_, _*_, _^_, _≤_, _<_}
-use native.Mathlib.Nat.{mul-comm}
 use native.Mathlib.Numerals.{add-one}
 use native.Mathlib.Omega.{arith}
 use lib.Dec.{eqb}
 use lib.Bits.{bitOr, or-lt}
 use lib.Pow.{pow-lt}
-use lib.ListN.{length, getD, take, length-append}
+use lib.ListN.{length, getD, length-append}
 use borrow.Author.Tests.{eq-eqb, ne-eqb}
 use Rattle.anf.specs.Tests.{pick}
 use Rattle.anf.proofs.Testing.{below, pick-true, pick-false}
-use Rattle.design.specs.Limits.{broken}
 use Rattle.design.proofs.Limits.{bounds}
 use Rattle.producer.specs.Direct.{has}
 use Rattle.producer.specs.Expanding.{joined, ending, emitted, inserted, insertedAll, Expands}

@@ -1,28 +1,25 @@
 -- The sum of the products of a term at a sharing is the term at the value shared: for each variable a share is chosen, so the products are
 -- those of the sums of shares multiplied out. A term of d variables has s^d products.
-use mathlib.Core.Path.{_≡_, refl, sym, ap, ap₂, _∙_, subst}
-use mathlib.Core.Logic.{_⊎_, inl, inr, ⊎-elim, _≢_}
+use mathlib.Core.Path.{_≡_, refl, sym, ap, ap₂, _∙_}
 use mathlib.Core.Bool.{Bool, true, false, not, _&&_}
-use Prim.Native.Nat.{ℕ, zero, suc, _+_, _-_, _*_, _/_, _%_, _^_, _≤_, _<_}
-use native.Mathlib.Nat.{mul-comm, mul-suc, add-comm, zero-mul, pow-suc, mod-lt, mod-eq-of-lt, add-zero, mul-zero, suc-mul}
+use Prim.Native.Nat.{ℕ, zero, suc, _+_, _-_, _*_, _/_, _%_, _^_, _<_}
+use native.Mathlib.Nat.{mul-suc, add-comm, zero-mul, mod-lt, mod-eq-of-lt, mul-zero, suc-mul}
 use native.Mathlib.Omega.{arith}
 use lib.Arith.{lt-one}
-use lib.Pow.{pow-pos, pow-add, high, split}
+use lib.Pow.{pow-add, high}
 use lib.Dec.{eqb}
-use lib.Bits.{bitXor, bitAnd, xor-shr, xor-mod, xor-self, and-zero-r, xor-lt, xor-comm, xor-zero-r}
-use lib.Count.{ones, ones-cat}
-use borrow.Author.Tests.{eqb-true, eq-eqb, ne-eqb, eqb-false}
-use Rattle.anf.specs.Tests.{pick, bit, count, total}
+use lib.Bits.{bitXor, xor-shr, xor-mod, xor-self, and-zero-r, xor-lt, xor-zero-r}
+use borrow.Author.Tests.{eqb-true, eq-eqb}
+use Rattle.anf.specs.Tests.{pick, bit}
 use Rattle.anf.specs.Sums.{xorBelow}
 use Rattle.anf.specs.NormalForm.{subset, subsetSum}
 use Rattle.anf.proofs.Testing.{bool-ext}
-use Rattle.anf.proofs.Xor.{xor-bit, bit-cases, xor-swap4}
-use Rattle.anf.proofs.Sums.{xorBelow-ext, xorBelow-none, xorBelow-add, pick-zero}
-use Rattle.anf.proofs.Subsets.{Top, low, top, top-cases, xor-top-low, subset-eq, eq-subset, subset-iff, subset-empty}
+use Rattle.anf.proofs.Sums.{xorBelow-ext, xorBelow-none, xorBelow-add}
+use Rattle.anf.proofs.Subsets.{Top, low, top, top-cases, xor-top-low, subset-eq, eq-subset, subset-empty}
 use Rattle.anf.proofs.Transform.{subsetSum-ext, subsetSum-none, subsetSum-low, subsetSum-top, subsetSum-zero}
 use Rattle.threshold.specs.Sharing.{share, sum}
 use Rattle.producer.specs.Direct.{has, isProduct}
-use Rattle.producer.proofs.Elements.{subset-low, subset-split, share-lt}
+use Rattle.producer.proofs.Elements.{subset-low, subset-split}
 use Rattle.producer.proofs.Products.{product-more, product-low, product-none}
 
 -- ---- a subset of u from one share, the others from the rest: the term u at a sum of two

@@ -1,12 +1,11 @@
 -- Products that are put into their places one after another, as the expansion of the terms brings them, make the list of the definition: each comes once, and
 -- a rising list with a term more in its place is the rising list of the larger set.
-use mathlib.Core.Path.{_≡_, refl, sym, ap, ap₂, _∙_, subst}
-use mathlib.Core.Logic.{_⊎_, inl, inr, ⊎-elim, _≢_}
-use mathlib.Core.Bool.{Bool, true, false, not, _&&_, _||_}
+use mathlib.Core.Path.{_≡_, refl, sym, ap, ap₂, _∙_}
+use mathlib.Core.Logic.{_⊎_, inl, inr}
+use mathlib.Core.Bool.{Bool, true, false, _&&_, _||_}
 use mathlib.Core.List.{List, [], _∷_, _++_, append-nil}
-use Prim.Native.Nat.{ℕ, zero, suc, _+_, _-_, _*_, _/_, _%_, _^_, _≤_, _<_}
+use Prim.Native.Nat.{ℕ, zero, suc, _+_, _-_, _*_, _^_, _≤_, _<_}
 use native.Mathlib.Nat.{not-suc-le-zero, zero-add}
-use native.Mathlib.Decide.{ℕ-discrete}
 use native.Mathlib.Omega.{arith}
 use lib.Pow.{pow-pos}
 use lib.Dec.{eqb, leb}
@@ -15,7 +14,7 @@ use lib.ListN.{length, getD, take, drop}
 use borrow.Author.Tests.{eqb-true, eq-eqb, ne-eqb, lt-ltb, le-ltb, le-leb}
 use Rattle.anf.specs.Tests.{pick, implies, all, any, first, tabulate}
 use Rattle.anf.specs.Terms.{before, passing}
-use Rattle.anf.proofs.Testing.{true-or-false, not-true-false, clash, below, pick-true, pick-false, and-intro, and-left, and-right, or-cases, or-left, or-none, any-at, any-some, all-at, implies-at}
+use Rattle.anf.proofs.Testing.{true-or-false, not-true-false, clash, below, pick-true, pick-false, and-intro, and-left, and-right, or-none, any-at, any-some, all-at, implies-at}
 use Rattle.anf.proofs.Terms.{Rising}
 use Rattle.anf.proofs.Passing.{passing-rising, passing-congr}
 use Rattle.design.proofs.Limits.{bounds}

@@ -1,22 +1,21 @@
 -- The component to which a product goes: where fewer shares are chosen than there are, it is one of the s components, and its share is not chosen.
 -- Walking on from a chosen share one comes to one that is not: if none stood before a chosen one, all would be chosen.
-use mathlib.Core.Path.{_≡_, refl, sym, ap, ap₂, _∙_, subst}
-use mathlib.Core.Logic.{_⊎_, inl, inr, ⊎-elim, _≢_}
+use mathlib.Core.Path.{_≡_, refl, sym, ap, _∙_}
+use mathlib.Core.Logic.{_⊎_, inl, inr, ⊎-elim}
 use mathlib.Core.Bool.{Bool, true, false, not, _&&_}
-use Prim.Native.Nat.{ℕ, zero, suc, _+_, _-_, _*_, _/_, _%_, _^_, _≤_, _<_}
-use native.Mathlib.Nat.{zero-mul, one-mul, mod-eq-of-lt, le-refl, le-step, le-of-suc-le-suc}
+use Prim.Native.Nat.{ℕ, zero, suc, _+_, _-_, _*_, _%_, _^_, _≤_, _<_}
 use native.Mathlib.Decide.{ℕ-discrete}
 use native.Mathlib.Omega.{arith}
-use lib.Pow.{pow-pos, high}
+use lib.Pow.{high}
 use lib.Dec.{eqb}
 use lib.Count.{ones}
 use borrow.Author.Tests.{eqb-true, eqb-false, eq-eqb, ne-eqb, not-true, not-false}
 use Rattle.anf.specs.Tests.{pick, bit, any, first, count, total}
-use Rattle.anf.proofs.Testing.{true-or-false, clash, below, and-intro, and-left, any-at, any-some, any-none, first-is, first-none, pick-true, pick-false}
-use Rattle.anf.proofs.Counting.{total-congr, total-mono, count-has, total-le}
+use Rattle.anf.proofs.Testing.{true-or-false, clash, below, and-left, any-some, any-none, first-is, first-none, pick-true, pick-false}
+use Rattle.anf.proofs.Counting.{total-congr, total-mono, count-has}
 use Rattle.threshold.specs.Sharing.{share}
 use Rattle.producer.specs.Direct.{has, isProduct, chosen, after, componentFor}
-use Rattle.producer.proofs.Elements.{has-is, has-none, has-low, has-congr, some-element, share-lt, share-has, ones-count}
+use Rattle.producer.proofs.Elements.{has-none, has-low, some-element, share-lt, share-has, ones-count}
 use Rattle.producer.proofs.Products.{product-at}
 use Rattle.producer.proofs.Counts.{total-swap}
 

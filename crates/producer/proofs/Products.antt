@@ -1,22 +1,21 @@
 -- The products of a term: share by share, a product takes a subset of the term's variables, and the shares below it take the others.
 -- So a product tells its term, and products of different terms are different: nothing cancels.
-use mathlib.Core.Path.{_≡_, refl, sym, ap, ap₂, _∙_, subst}
-use mathlib.Core.Logic.{_⊎_, inl, inr, ⊎-elim, _≢_}
+use mathlib.Core.Path.{_≡_, refl, sym, ap, _∙_}
 use mathlib.Core.Bool.{Bool, true, false, not, _&&_}
-use Prim.Native.Nat.{ℕ, zero, suc, _+_, _-_, _*_, _/_, _%_, _^_, _≤_, _<_}
+use Prim.Native.Nat.{ℕ, suc, _+_, _-_, _*_, _^_, _<_}
 use native.Mathlib.Nat.{zero-add}
 use native.Mathlib.Omega.{arith}
 use lib.Pow.{pow-pos}
 use lib.Dec.{eqb}
 use lib.Bits.{bitXor}
 use borrow.Author.Tests.{eqb-true, eq-eqb, ne-eqb}
-use Rattle.anf.specs.Tests.{pick, implies, all, bit, count, total}
+use Rattle.anf.specs.Tests.{implies, all, bit, count, total}
 use Rattle.anf.specs.NormalForm.{subset}
 use Rattle.anf.proofs.Testing.{bool-ext, and-intro, and-left, and-right, all-at, all-intro, all-congr}
-use Rattle.anf.proofs.Counting.{total-congr, count-congr}
+use Rattle.anf.proofs.Counting.{count-congr}
 use Rattle.threshold.specs.Sharing.{share}
 use Rattle.producer.specs.Direct.{has, isProduct}
-use Rattle.producer.proofs.Elements.{has-is, has-none, sets-eq, share-lt, unlike, has-xor, subset-all, has-low, share-has, place-lt}
+use Rattle.producer.proofs.Elements.{has-none, sets-eq, share-lt, unlike, has-xor, subset-all, has-low, share-has, place-lt}
 
 pub product-at : (m s u p : ℕ) → isProduct m s u p ≡ true → (v : ℕ) → v < m → count s (λ j. has p (j * m + v)) ≡ bit (has u v)
 unfolding isProduct

@@ -1,24 +1,23 @@
 -- A table can be shared correctly and non-completely with s shares exactly when its degree is below s: the degree bound, for component functions of a
 -- sharing as one number, and the direct stage.
-use mathlib.Core.Path.{_≡_, refl, sym, ap, ap₂, _∙_, subst}
-use mathlib.Core.Logic.{_↔_, ⊎-elim}
+use mathlib.Core.Path.{_≡_, sym, ap, ap₂, _∙_, subst}
+use mathlib.Core.Logic.{_↔_}
 use mathlib.Core.List.{List, [], _∷_, _++_}
-use Prim.Native.Nat.{ℕ, zero, suc, _+_, _-_, _*_, _/_, _%_, _^_, _≤_, _<_}
-use native.Mathlib.Nat.{mul-comm, mul-assoc, add-mul, add-assoc, mul-suc, mul-zero, mul-one, add-zero, pow-zero, not-suc-le-zero, le-of-suc-le-suc}
+use Prim.Native.Nat.{ℕ, zero, suc, _+_, _-_, _*_, _^_, _≤_, _<_}
+use native.Mathlib.Nat.{mul-assoc, add-mul, add-assoc, mul-zero, not-suc-le-zero}
 use native.Mathlib.Decide.{decLt}
 use native.Mathlib.Omega.{arith}
 use lib.Arith.{digits-lt, digits-div, digits-mod}
-use lib.Pow.{pow-pos, pow-add, high, low}
-use lib.ListN.{length, getD, set, take, drop, length-take, length-set}
+use lib.Pow.{pow-pos, high, low}
+use lib.ListN.{length, getD, set, take, drop, length-take}
 use lib.Seq.{split-at, set-split, getD-take}
-use Rattle.anf.specs.Sums.{xorBelow}
 use Rattle.anf.specs.NormalForm.{degree}
 use Rattle.anf.proofs.Sums.{xorBelow-ext}
 use Rattle.anf.specs.Points.{Points}
 use Rattle.anf.proofs.Degree.{degree-bound}
 use Rattle.design.specs.Design.{entry, TableFits}
-use Rattle.threshold.specs.Sharing.{share, sum, setting, putShare, withShare}
-use Rattle.threshold.specs.Stages.{component, Correct, NonComplete}
+use Rattle.threshold.specs.Sharing.{share, setting, putShare, withShare}
+use Rattle.threshold.specs.Stages.{component}
 use Rattle.threshold.proofs.Sharing.{pow-step, share-zero, share-suc, setting-put, sum-shares}
 use Rattle.producer.specs.Direct.{directStage, Shareable}
 use Rattle.producer.proofs.Stage.{direct-correct, direct-non-complete}

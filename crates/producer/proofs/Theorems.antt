@@ -1,24 +1,23 @@
 -- What producing promises, of a permutation within the limits: 16 is answered exactly when the box cannot be shared, over all component functions;
 -- and what is produced reads as the direct sharing, whose stage is correct and non-complete.
-use mathlib.Core.Path.{_≡_, refl, sym, ap, ap₂, _∙_, subst}
-use mathlib.Core.Logic.{_↔_, _⊎_, inl, inr, ⊎-elim}
+use mathlib.Core.Path.{_≡_, refl, sym, ap, _∙_, subst}
+use mathlib.Core.Logic.{_↔_, _⊎_, ⊎-elim}
 use mathlib.Core.Bool.{Bool, true, false, not}
-use mathlib.Core.List.{List, [], _∷_, _++_}
-use Prim.Native.Nat.{ℕ, zero, suc, _+_, _*_, _/_, _%_, _^_, _≤_, _<_}
+use mathlib.Core.List.{List, [], _∷_}
+use Prim.Native.Nat.{ℕ, _^_, _≤_, _<_}
 use native.Mathlib.Omega.{arith}
 use lib.Dec.{eqb, ltb, leb}
-use lib.ListN.{length, getD, take, drop}
+use lib.ListN.{length, take, drop}
 use lib.Seq.{take-append-seam, drop-append-seam}
 use borrow.Author.Tests.{eqb-true, eq-eqb, ne-eqb, leb-false, lt-leb, ltb-false, le-ltb, not-false}
 use Rattle.anf.specs.Tests.{pick}
 use Rattle.anf.specs.Tables.{entriesBelow, repeats}
 use Rattle.anf.specs.NormalForm.{degree}
-use Rattle.anf.proofs.Testing.{true-or-false, clash, pick-true, pick-false}
-use Rattle.anf.proofs.Counting.{Injective}
+use Rattle.anf.proofs.Testing.{true-or-false, pick-true, pick-false}
 use Rattle.anf.proofs.Tables.{entries-at, entries-intro, repeats-none, none-repeats}
 use Rattle.anf.proofs.Answers.{no-refusal}
 use Rattle.design.specs.Limits.{broken}
-use Rattle.design.specs.Design.{Stage, Design, entry, TableFits, WellFormed}
+use Rattle.design.specs.Design.{entry, WellFormed}
 use Rattle.design.specs.Reading.{means, reading}
 use Rattle.design.proofs.Limits.{bounds}
 use Rattle.design.proofs.Theorems.{encode-reads}

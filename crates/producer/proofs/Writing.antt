@@ -1,8 +1,7 @@
 -- The records of the lists, one behind the other: how long they are, and that each that is written makes one more of them.
-use mathlib.Core.Path.{_≡_, refl, sym, ap, ap₂, _∙_, subst}
+use mathlib.Core.Path.{_≡_, refl, sym, ap, ap₂, _∙_}
 use mathlib.Core.List.{List, [], _∷_, _++_, map, append-assoc, append-nil}
-use Prim.Native.Nat.{ℕ, zero, suc, _+_, _-_, _*_, _/_, _%_, _^_, _≤_, _<_}
-use native.Mathlib.Nat.{add-assoc}
+use Prim.Native.Nat.{ℕ, _+_, _-_, _*_, _/_, _%_, _≤_, _<_}
 use native.Mathlib.Numerals.{add-one}
 use native.Mathlib.Omega.{arith}
 use lib.ListN.{length, getD, take, drop, length-take, length-append, take-append-drop}
@@ -11,7 +10,7 @@ use Rattle.anf.proofs.Testing.{tabulate-at, tabulate-length}
 use Rattle.design.specs.Bytes.{four, termBytes, overwrite}
 use Rattle.design.specs.Encode.{join, recordHead, aRecord, stageBytes, encode}
 use Rattle.design.proofs.TermBytes.{length-termBytes}
-use Rattle.design.proofs.Overwriting.{overwrite-append, overwrite-nil, overwrite-record, record-length, overwrite-length, join-more}
+use Rattle.design.proofs.Overwriting.{overwrite-append, overwrite-nil, overwrite-record, record-length, join-more}
 use Rattle.producer.specs.Direct.{directList, directLists}
 use Rattle.producer.specs.Expanding.{listRecord, listRecords, oneStageFile}
 

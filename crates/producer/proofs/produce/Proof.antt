@@ -1,46 +1,33 @@
 -- `produce` meets its contract, by whether the head is within the limits.
-use mathlib.Core.Path.{_≡_, refl, sym, ap, _∙_}
+use mathlib.Core.Path.{sym, _∙_}
 use native.Mathlib.Omega.{arith}
 use lib.ListN.{length}
 use Rattle.producer.proofs.Answering.{refusal-answer, reason-beyond, head-good, head-beyond}
 use borrow.Author.Needs.{needs}
 use Rattle.producer.proofs.produce.Statement.{statement}
 use Rattle.producer.proofs.produce.Tie as tie
-use Rattle.producer.proofs.produce.Reads as reads
-use Rattle.producer.proofs.produce.Lts as lts
-use Rattle.design.proofs.Head.new.Reads as new-reads
-use Rattle.producer.proofs.produce_within.Reads as produce-within-reads
-use Rattle.producer.proofs.refusal.Reads as refusal-reads
 
--- src/lib.rt:82:11
 new-requires : tie.Need-new-requires
 new-requires c κs = search needs
 
--- src/lib.rt:83:57
 enum-told : tie.Need-enum-told
 enum-told c = search needs
 
--- src/lib.rt:83:29
 produce-within-requires : tie.Need-produce-within-requires
 produce-within-requires c κs = head-good (c .before .before .before .before .before .before .args .m) (c .before .before .before .before .before .before .args .s) _ (sym (c .before .enum-told .given .1) ∙ c .before .before .before .new .ensures)
 
--- src/lib.rt:84:28
 enum-told-2 : tie.Need-enum-told-2
 enum-told-2 c = search needs
 
--- src/lib.rt:84:28
 refusal-requires : tie.Need-refusal-requires
 refusal-requires c κs = search needs
 
--- src/lib.rt:78:1
 same-length : tie.Need-same-length
 same-length c = search needs
 
--- src/lib.rt:78:1
 returns : tie.Need-returns
 returns c = search needs
 
--- src/lib.rt:78:1
 returns-2 : tie.Need-returns-2
 returns-2 c =
     rw (c .refusal .ensures) (refusal-answer (c .before .before .before .before .before .before .args .m) (c .before .before .before .before .before .before .args .s) (c .before .before .before .before .before .before .args .table .now) (c .before .before .before .before .before .before .args .output .now) 4 (omega arith)

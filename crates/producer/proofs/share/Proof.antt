@@ -1,5 +1,5 @@
 -- `share` meets its contract: the length is that of the produced file, and the file is written only where it fits.
-use mathlib.Core.Path.{_≡_, refl, sym, ap, _∙_, subst}
+use mathlib.Core.Path.{ap, _∙_, subst}
 use Prim.Native.Nat.{ℕ, _<_}
 use native.Mathlib.Omega.{arith}
 use lib.Pow.{pow-mono}
@@ -10,81 +10,57 @@ use Rattle.producer.proofs.Answering.{refusal-answer, success-answer, f
 use borrow.Author.Needs.{needs}
 use Rattle.producer.proofs.share.Statement.{statement}
 use Rattle.producer.proofs.share.Tie as tie
-use Rattle.producer.proofs.share.Reads as reads
-use Rattle.producer.proofs.share.Lts as lts
-use Rattle.anf.proofs.points.Reads as points-reads
-use Rattle.producer.proofs.expand.rules.Reads as rules-reads
-use Rattle.producer.proofs.file.lists_size.Reads as lists-size-reads
-use Rattle.producer.proofs.file.put_file.Reads as put-file-reads
-use Rattle.producer.proofs.refusal.Reads as refusal-reads
 
--- src/lib.rt:40:9
 points-requires : tie.Need-points-requires
 points-requires c κs = omega (arith, bounds (c .before .before .before .args .m) (c .before .before .before .args .s) 1 (c .before .before .before .pre .limits) .s-high)
 
--- src/lib.rt:41:18
 rules-requires : tie.Need-rules-requires
 rules-requires c κs = search needs
 
--- src/lib.rt:42:24
 sub-rule : tie.Need-sub-rule
 sub-rule c = omega (arith, c .before .points .ensures, sets-least (c .before .before .before .before .before .args .s) (bounds (c .before .before .before .before .before .args .m) (c .before .before .before .before .before .args .s) 1 (c .before .before .before .before .before .pre .limits) .s-low), sets-most (c .before .before .before .before .before .args .s) (bounds (c .before .before .before .before .before .args .m) (c .before .before .before .before .before .args .s) 1 (c .before .before .before .before .before .pre .limits) .s-high))
 
--- src/lib.rt:42:34
 sub-rule-2 : tie.Need-sub-rule-2
 sub-rule-2 c = omega (arith, c .before .points .ensures, sets-least (c .before .before .before .before .before .args .s) (bounds (c .before .before .before .before .before .args .m) (c .before .before .before .before .before .args .s) 1 (c .before .before .before .before .before .pre .limits) .s-low), sets-most (c .before .before .before .before .before .args .s) (bounds (c .before .before .before .before .before .args .m) (c .before .before .before .before .before .args .s) 1 (c .before .before .before .before .before .pre .limits) .s-high))
 
--- src/lib.rt:42:34
 add-rule : tie.Need-add-rule
 add-rule c = omega (arith, c .before .points .ensures, sets-least (c .before .before .before .before .before .args .s) (bounds (c .before .before .before .before .before .args .m) (c .before .before .before .before .before .args .s) 1 (c .before .before .before .before .before .pre .limits) .s-low), sets-most (c .before .before .before .before .before .args .s) (bounds (c .before .before .before .before .before .args .m) (c .before .before .before .before .before .args .s) 1 (c .before .before .before .before .before .pre .limits) .s-high))
 
--- src/lib.rt:42:16
 sub-rule-3 : tie.Need-sub-rule-3
 sub-rule-3 c = search needs
 
--- src/lib.rt:42:16
 part-rule-start : tie.Need-part-rule-start
 part-rule-start c = search needs
 
--- src/lib.rt:42:16
 part-rule-end : tie.Need-part-rule-end
 part-rule-end c = omega (arith, c .before .before .points .ensures, sets-least (c .before .before .before .before .before .before .args .s) (bounds (c .before .before .before .before .before .before .args .m) (c .before .before .before .before .before .before .args .s) 1 (c .before .before .before .before .before .before .pre .limits) .s-low), sets-most (c .before .before .before .before .before .before .args .s) (bounds (c .before .before .before .before .before .before .args .m) (c .before .before .before .before .before .before .args .s) 1 (c .before .before .before .before .before .before .pre .limits) .s-high), ap length (c .before .rules .ensures), rules-length)
 
--- src/lib.rt:44:21
 mul-size : tie.Need-mul-size
 mul-size c = search needs
 
--- src/lib.rt:44:16
 add-size : tie.Need-add-size
 add-size c = omega (arith, c .before .before .before .before .before .before .before .pre .size, pow-mono (bounds (c .before .before .before .before .before .before .before .args .m) (c .before .before .before .before .before .before .before .args .s) 1 (c .before .before .before .before .before .before .before .pre .limits) .m-high))
 
--- src/lib.rt:44:69
 slice-aggregate-lists-size : tie.Need-slice-aggregate-lists-size
 slice-aggregate-lists-size c = search needs
 
--- src/lib.rt:44:39
 lists-size-requires : tie.Need-lists-size-requires
 lists-size-requires c κs = ready-gathers (c .before .before .before .before .before .before .before .before .args .m) (c .before .before .before .before .before .before .before .before .args .s) (c .before .before .before .before .before .before .before .before .args .table .now) (c .before .before .before .before .before .before .before .before .args .words .now) (length (c .before .before .before .before .before .before .before .before .args .output .now)) (c .before .before .before .before .before .before .before .before .pre) _ _ (rule-part (c .before .before .before .before .before .before .before .before .args .s) (c .before .before .before .before .points .result) (c .before .before .before .rules .result) (bounds (c .before .before .before .before .before .before .before .before .args .m) (c .before .before .before .before .before .before .before .before .args .s) 1 (c .before .before .before .before .before .before .before .before .pre .limits) .s-low) (bounds (c .before .before .before .before .before .before .before .before .args .m) (c .before .before .before .before .before .before .before .before .args .s) 1 (c .before .before .before .before .before .before .before .before .pre .limits) .s-high) (c .before .before .before .before .points .ensures) (c .before .before .before .rules .ensures)) (omega arith)
 
--- src/lib.rt:44:16
 add-size-2 : tie.Need-add-size-2
 add-size-2 c = omega (arith, c .before .before .before .before .before .before .before .before .before .before .pre .size, pow-mono (bounds (c .before .before .before .before .before .before .before .before .before .before .args .m) (c .before .before .before .before .before .before .before .before .before .before .args .s) 1 (c .before .before .before .before .before .before .before .before .before .before .pre .limits) .m-high), c .before .lists-size .ensures .1)
 
--- src/lib.rt:46:9
 refusal-requires : tie.Need-refusal-requires
 refusal-requires c κs = search needs
 
--- src/lib.rt:46:9
 returns : tie.Need-returns
 returns c =
     rw (c .refusal .ensures) (refusal-answer (c .before .before .before .before .before .before .before .before .before .before .before .before .args .m) (c .before .before .before .before .before .before .before .before .before .before .before .before .args .s) (c .before .before .before .before .before .before .before .before .before .before .before .before .args .table .now) (c .before .before .before .before .before .before .before .before .before .before .before .before .args .output .now) 17 (omega arith)
     (short (c .before .before .before .before .before .before .before .before .before .before .before .before .args .m) (c .before .before .before .before .before .before .before .before .before .before .before .before .args .s) (c .before .before .before .before .before .before .before .before .before .before .before .before .args .table .now) (c .before .before .before .before .before .before .before .before .before .before .before .before .args .words .now) (length (c .before .before .before .before .before .before .before .before .before .before .before .before .args .output .now)) (c .before .before .before .before .before .before .before .before .before .before .before .before .pre) (subst (λ (n : ℕ). length (c .before .before .before .before .before .before .before .before .before .before .before .before .args .output .now) < n) (file-size (c .before .before .before .before .before .before .before .before .before .before .before .before .args .m) (c .before .before .before .before .before .before .before .before .before .before .before .before .args .s) (c .before .before .before .before .before .before .before .before .before .before .before .before .args .table .now) (c .before .before .before .before .before .before .before .before .before .before .before .before .args .words .now) (length (c .before .before .before .before .before .before .before .before .before .before .before .before .args .output .now)) (c .before .before .before .before .before .before .before .before .before .before .before .before .pre) _ (c .before .before .before .lists-size .ensures .0)) (c .before .if1 .taken))))
 
--- src/lib.rt:48:40
 slice-aggregate-put-file : tie.Need-slice-aggregate-put-file
 slice-aggregate-put-file c = search needs
 
--- src/lib.rt:48:5
 put-file-requires : tie.Need-put-file-requires
 put-file-requires c κs = (
   ready-gathers (c .before .before .before .before .before .before .before .before .before .before .before .before .before .args .m) (c .before .before .before .before .before .before .before .before .before .before .before .before .before .args .s) (c .before .before .before .before .before .before .before .before .before .before .before .before .before .args .table .now) (c .before .before .before .before .before .before .before .before .before .before .before .before .before .args .words .now) (length (c .before .before .before .before .before .before .before .before .before .before .before .before .before .args .output .now)) (c .before .before .before .before .before .before .before .before .before .before .before .before .before .pre) _ _ (rule-part (c .before .before .before .before .before .before .before .before .before .before .before .before .before .args .s) (c .before .before .before .before .before .before .before .before .before .points .result) (c .before .before .before .before .before .before .before .before .rules .result) (bounds (c .before .before .before .before .before .before .before .before .before .before .before .before .before .args .m) (c .before .before .before .before .before .before .before .before .before .before .before .before .before .args .s) 1 (c .before .before .before .before .before .before .before .before .before .before .before .before .before .pre .limits) .s-low) (bounds (c .before .before .before .before .before .before .before .before .before .before .before .before .before .args .m) (c .before .before .before .before .before .before .before .before .before .before .before .before .before .args .s) 1 (c .before .before .before .before .before .before .before .before .before .before .before .before .before .pre .limits) .s-high) (c .before .before .before .before .before .before .before .before .before .points .ensures) (c .before .before .before .before .before .before .before .before .rules .ensures)) (omega (arith, c .before .before .before .before .lists-size .kept .1 .1 .1 .1 .0)),
@@ -92,11 +68,9 @@ put-file-requires c κs = (
   omega (arith, ap length (file-is (c .before .before .before .before .before .before .before .before .before .before .before .before .before .args .m) (c .before .before .before .before .before .before .before .before .before .before .before .before .before .args .s) (c .before .before .before .before .before .before .before .before .before .before .before .before .before .args .table .now) (c .before .before .before .before .before .before .before .before .before .before .before .before .before .args .words .now) (length (c .before .before .before .before .before .before .before .before .before .before .before .before .before .args .output .now)) (c .before .before .before .before .before .before .before .before .before .before .before .before .before .pre)), file-size (c .before .before .before .before .before .before .before .before .before .before .before .before .before .args .m) (c .before .before .before .before .before .before .before .before .before .before .before .before .before .args .s) (c .before .before .before .before .before .before .before .before .before .before .before .before .before .args .table .now) (c .before .before .before .before .before .before .before .before .before .before .before .before .before .args .words .now) (length (c .before .before .before .before .before .before .before .before .before .before .before .before .before .args .output .now)) (c .before .before .before .before .before .before .before .before .before .before .before .before .before .pre) _ (c .before .before .before .before .lists-size .ensures .0), c .before .before .if1 .left),
 )
 
--- src/lib.rt:35:1
 same-length : tie.Need-same-length
 same-length c = search needs
 
--- src/lib.rt:35:1
 returns-2 : tie.Need-returns-2
 returns-2 c =
     let z = file-size (c .before .before .before .before .before .before .before .before .before .before .before .before .before .before .before .before .before .args .m) (c .before .before .before .before .before .before .before .before .before .before .before .before .before .before .before .before .before .args .s) (c .before .before .before .before .before .before .before .before .before .before .before .before .before .before .before .before .before .args .table .now) (c .before .before .before .before .before .before .before .before .before .before .before .before .before .before .before .before .before .args .words .now) (length (c .before .before .before .before .before .before .before .before .before .before .before .before .before .before .before .before .before .args .output .now)) (c .before .before .before .before .before .before .before .before .before .before .before .before .before .before .before .before .before .pre) _ (c .before .before .before .before .before .before .before .before .lists-size .ensures .0) in

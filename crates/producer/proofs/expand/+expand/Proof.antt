@@ -1,11 +1,11 @@
 -- The proof of the cycle of calls {expand}. The measure is the number of variables left. The loop's invariant: the products of the first j shares are in their places.
 use mathlib.Core.Path.{_≡_, refl, sym, ap, _∙_}
-use Prim.Native.Nat.{ℕ, _+_, _-_, _*_, _≤_, _<_}
+use Prim.Native.Nat.{ℕ, _+_, _-_, _≤_, _<_}
 use native.Mathlib.Omega.{arith}
 use lib.ListN.{length, take}
 use borrow.Author.Tests.{not-true, not-false}
 use Rattle.design.proofs.Limits.{bounds}
-use Rattle.producer.specs.Expanding.{joined, emitted, insertedAll}
+use Rattle.producer.specs.Expanding.{joined, insertedAll}
 use Rattle.producer.proofs.Emitting.{through, emitted-end, emitted-skip, emitted-each, expands-skip, expands-share, bit-place, turn-count, turn-list}
 use borrow.Fn.Kinds.{In}
 use borrow.Fn.PlainCycle.{Measures, is, falls, and}
@@ -35,7 +35,6 @@ expand-Inv-loop rule m s u to left p chosen list₀ n v count₀ j₀ list count
 abbrev expand-μ-loop : expand-lts.MeasureT-loop
 expand-μ-loop rule m s u to left p chosen list₀ n v count₀ j₀ list count j = s - j
 
--- src/expand.rt:100:9
 expand-emit-requires : (t : ℕ) → expand-lts.Need-emit-requires (
   emit-reads.Asked,
   emit-reads.Learnt,
@@ -51,7 +50,6 @@ expand-emit-requires t c κs =
     let e = emitted-end (c .before .before .before .before .args .rule .now) (c .before .before .before .before .args .m) (c .before .before .before .before .args .s) (c .before .before .before .before .args .u) (c .before .before .before .before .args .to) (c .before .before .before .before .args .left) (c .before .before .before .before .args .p) (c .before .before .before .before .args .chosen) (c .before .if1 .taken) in
     (omega (arith, x .chosen, x .sets), omega (arith, x .room, ap length e))
 
--- src/expand.rt:100:9
 expand-same-length : (t : ℕ) → expand-lts.Need-same-length (
   emit-reads.Asked,
   emit-reads.Learnt,
@@ -64,7 +62,6 @@ expand-same-length : (t : ℕ) → expand-lts.Need-same-length (
 ) (expand-at t) expand.Post expand-Inv-loop expand-μ-loop
 expand-same-length t c = c .before .before .emit .kept .1 .1 .1 .1 .0
 
--- src/expand.rt:100:9
 expand-returns : (t : ℕ) → expand-lts.Need-returns (
   emit-reads.Asked,
   emit-reads.Learnt,
@@ -79,7 +76,6 @@ expand-returns t c =
     let e = emitted-end (c .before .before .before .before .before .before .before .args .rule .now) (c .before .before .before .before .before .before .before .args .m) (c .before .before .before .before .before .before .before .args .s) (c .before .before .before .before .before .before .before .args .u) (c .before .before .before .before .before .before .before .args .to) (c .before .before .before .before .before .before .before .args .left) (c .before .before .before .before .before .before .before .args .p) (c .before .before .before .before .before .before .before .args .chosen) (c .before .before .before .before .if1 .taken) in
     (c .before .before .emit .ensures .0 ∙ sym (ap (λ ts. c .before .before .before .before .before .before .before .args .n + length ts) e), c .before .before .emit .ensures .1 ∙ sym (ap (λ ts. insertedAll ts (take (c .before .before .before .before .before .before .before .args .n) (c .before .before .before .before .before .before .before .args .list .now))) e))
 
--- src/expand.rt:102:13
 expand-sub-v : (t : ℕ) → expand-lts.Need-sub-v (
   emit-reads.Asked,
   emit-reads.Learnt,
@@ -92,7 +88,6 @@ expand-sub-v : (t : ℕ) → expand-lts.Need-sub-v (
 ) (expand-at t) expand.Post expand-Inv-loop expand-μ-loop
 expand-sub-v t c = omega arith
 
--- src/expand.rt:103:9
 expand-has-requires : (t : ℕ) → expand-lts.Need-has-requires (
   emit-reads.Asked,
   emit-reads.Learnt,
@@ -105,7 +100,6 @@ expand-has-requires : (t : ℕ) → expand-lts.Need-has-requires (
 ) (expand-at t) expand.Post expand-Inv-loop expand-μ-loop
 expand-has-requires t c κs = omega (arith, bounds (c .before .before .before .args .m) (c .before .before .before .args .s) 1 (c .before .before .before .pre .1 .limits) .m-high, c .before .before .before .pre .1 .within)
 
--- src/expand.rt:104:9
 expand-expand-requires : (t : ℕ) → expand-lts.Need-expand-requires (
   emit-reads.Asked,
   emit-reads.Learnt,
@@ -122,7 +116,6 @@ expand-expand-requires t c κs = (
       (sym (c .before .before .has .ensures) ∙ not-true _ (c .before .if2 .taken)) (c .before .before .before .before .before .before .pre .1),
 )
 
--- src/expand.rt:104:9
 expand-same-length-2 : (t : ℕ) → expand-lts.Need-same-length-2 (
   emit-reads.Asked,
   emit-reads.Learnt,
@@ -135,7 +128,6 @@ expand-same-length-2 : (t : ℕ) → expand-lts.Need-same-length-2 (
 ) (expand-at t) expand.Post expand-Inv-loop expand-μ-loop
 expand-same-length-2 t c = c .before .before .expand .kept .1 .1 .1 .1 .1 .1 .1 .1 .0
 
--- src/expand.rt:104:9
 expand-returns-2 : (t : ℕ) → expand-lts.Need-returns-2 (
   emit-reads.Asked,
   emit-reads.Learnt,
@@ -151,7 +143,6 @@ expand-returns-2 t c =
     (sym (c .before .before .before .before .before .has .ensures) ∙ not-true _ (c .before .before .before .before .if2 .taken)) in
     (c .before .before .expand .ensures .0 ∙ sym (ap (λ ts. c .before .before .before .before .before .before .before .before .before .args .n + length ts) e), c .before .before .expand .ensures .1 ∙ sym (ap (λ ts. insertedAll ts (take (c .before .before .before .before .before .before .before .before .before .args .n) (c .before .before .before .before .before .before .before .before .before .args .list .now))) e))
 
--- src/expand.rt:108:5
 expand-loop-holds : (t : ℕ) → expand-lts.Need-loop-holds (
   emit-reads.Asked,
   emit-reads.Learnt,
@@ -165,7 +156,6 @@ expand-loop-holds : (t : ℕ) → expand-lts.Need-loop-holds (
 unfolding joined insertedAll
 expand-loop-holds t c = (omega arith, refl, omega arith, refl)
 
--- src/expand.rt:109:25
 expand-mul-with : (t : ℕ) → expand-lts.Need-mul-with (
   emit-reads.Asked,
   emit-reads.Learnt,
@@ -179,7 +169,6 @@ expand-mul-with : (t : ℕ) → expand-lts.Need-mul-with (
 expand-mul-with t c =
     omega (arith, bit-place (c .before .before .before .before .before .before .before .args .rule .now) (c .before .before .before .before .before .before .before .args .m) (c .before .before .before .before .before .before .before .args .s) (c .before .before .before .before .before .before .before .args .u) (c .before .before .before .before .before .before .before .args .to) (c .before .before .before .before .before .before .before .args .left) (c .before .before .before .before .before .before .before .args .chosen) _ (c .before .before .before .before .before .before .before .args .n) (c .before .loop .j) _ (c .before .before .before .before .before .before .before .pre .1) (c .before .before .before .before .if1 .left) (c .loop-test .taken))
 
--- src/expand.rt:109:25
 expand-add-with : (t : ℕ) → expand-lts.Need-add-with (
   emit-reads.Asked,
   emit-reads.Learnt,
@@ -193,7 +182,6 @@ expand-add-with : (t : ℕ) → expand-lts.Need-add-with (
 expand-add-with t c =
     omega (arith, bit-place (c .before .before .before .before .before .before .before .args .rule .now) (c .before .before .before .before .before .before .before .args .m) (c .before .before .before .before .before .before .before .args .s) (c .before .before .before .before .before .before .before .args .u) (c .before .before .before .before .before .before .before .args .to) (c .before .before .before .before .before .before .before .args .left) (c .before .before .before .before .before .before .before .args .chosen) _ (c .before .before .before .before .before .before .before .args .n) (c .before .loop .j) _ (c .before .before .before .before .before .before .before .pre .1) (c .before .before .before .before .if1 .left) (c .loop-test .taken))
 
--- src/expand.rt:109:13
 expand-with-requires : (t : ℕ) → expand-lts.Need-with-requires (
   emit-reads.Asked,
   emit-reads.Learnt,
@@ -207,7 +195,6 @@ expand-with-requires : (t : ℕ) → expand-lts.Need-with-requires (
 expand-with-requires t c κs =
     omega (arith, bit-place (c .before .before .before .before .before .before .before .args .rule .now) (c .before .before .before .before .before .before .before .args .m) (c .before .before .before .before .before .before .before .args .s) (c .before .before .before .before .before .before .before .args .u) (c .before .before .before .before .before .before .before .args .to) (c .before .before .before .before .before .before .before .args .left) (c .before .before .before .before .before .before .before .args .chosen) _ (c .before .before .before .before .before .before .before .args .n) (c .before .loop .j) _ (c .before .before .before .before .before .before .before .pre .1) (c .before .before .before .before .if1 .left) (c .loop-test .taken))
 
--- src/expand.rt:110:13
 expand-with-requires-2 : (t : ℕ) → expand-lts.Need-with-requires-2 (
   emit-reads.Asked,
   emit-reads.Learnt,
@@ -220,7 +207,6 @@ expand-with-requires-2 : (t : ℕ) → expand-lts.Need-with-requires-2 (
 ) (expand-at t) expand.Post expand-Inv-loop expand-μ-loop
 expand-with-requires-2 t c κs = omega (arith, bounds (c .before .before .before .before .before .before .before .before .args .m) (c .before .before .before .before .before .before .before .before .args .s) 1 (c .before .before .before .before .before .before .before .before .pre .1 .limits) .s-high)
 
--- src/expand.rt:111:9
 expand-expand-requires-2 : (t : ℕ) → expand-lts.Need-expand-requires-2 (
   emit-reads.Asked,
   emit-reads.Learnt,
@@ -238,7 +224,6 @@ expand-expand-requires-2 t c κs = (
       (c .before .before .before .loop-test .taken) (c .before .before .before .before .loop .inv .2) (c .before .before .with .ensures) (c .before .with2 .ensures)),
 )
 
--- src/expand.rt:112:9
 expand-add-j : (t : ℕ) → expand-lts.Need-add-j (
   emit-reads.Asked,
   emit-reads.Learnt,
@@ -251,7 +236,6 @@ expand-add-j : (t : ℕ) → expand-lts.Need-add-j (
 ) (expand-at t) expand.Post expand-Inv-loop expand-μ-loop
 expand-add-j t c = omega (arith, bounds (c .before .before .before .before .before .before .before .before .before .before .before .before .before .args .m) (c .before .before .before .before .before .before .before .before .before .before .before .before .before .args .s) 1 (c .before .before .before .before .before .before .before .before .before .before .before .before .before .pre .1 .limits) .s-high)
 
--- src/expand.rt:108:5
 expand-loop-less : (t : ℕ) → expand-lts.Need-loop-less (
   emit-reads.Asked,
   emit-reads.Learnt,
@@ -264,7 +248,6 @@ expand-loop-less : (t : ℕ) → expand-lts.Need-loop-less (
 ) (expand-at t) expand.Post expand-Inv-loop expand-μ-loop
 expand-loop-less t c = omega arith
 
--- src/expand.rt:108:5
 expand-loop-again : (t : ℕ) → expand-lts.Need-loop-again (
   emit-reads.Asked,
   emit-reads.Learnt,
@@ -284,7 +267,6 @@ expand-loop-again t c =
       turn-list f (c .before .before .before .before .before .before .before .loop .j) (take (c .before .before .before .before .before .before .before .before .before .before .before .before .before .args .n) (c .before .before .before .before .before .before .before .before .before .before .before .before .before .args .list .now)) _ _ (c .before .before .before .before .before .before .before .loop .inv .3) (rw (c .before .before .before .before .before .with .ensures, c .before .before .before .before .with2 .ensures) at (r .ensures .1)),
     )
 
--- src/expand.rt:83:1
 expand-same-length-3 : (t : ℕ) → expand-lts.Need-same-length-3 (
   emit-reads.Asked,
   emit-reads.Learnt,
@@ -297,7 +279,6 @@ expand-same-length-3 : (t : ℕ) → expand-lts.Need-same-length-3 (
 ) (expand-at t) expand.Post expand-Inv-loop expand-μ-loop
 expand-same-length-3 t c = c .before .loop .inv .1
 
--- src/expand.rt:83:1
 expand-returns-3 : (t : ℕ) → expand-lts.Need-returns-3 (
   emit-reads.Asked,
   emit-reads.Learnt,

@@ -1,13 +1,13 @@
 -- `add_term` meets its contract, by whether the coefficient word has the bit.
-use mathlib.Core.Path.{_≡_, refl, sym, ap, _∙_}
-use mathlib.Core.List.{List, []}
-use Prim.Native.Nat.{ℕ, _+_}
+use mathlib.Core.Path.{sym, ap, _∙_}
+use mathlib.Core.List.{[]}
+use Prim.Native.Nat.{_+_}
 use native.Mathlib.Omega.{arith}
 use lib.ListN.{length, take}
 use borrow.Author.Needs.{needs}
 use borrow.Author.Tests.{not-true, not-false}
 use Rattle.anf.proofs.Testing.{pick-true, pick-false}
-use Rattle.producer.specs.Expanding.{emitted, insertedAll, Expands}
+use Rattle.producer.specs.Expanding.{emitted, insertedAll}
 use Rattle.producer.proofs.Emitting.{inserted-none}
 use Rattle.producer.proofs.expand.add_term.Statement.{statement}
 use Rattle.producer.proofs.expand.add_term.Tie as tie

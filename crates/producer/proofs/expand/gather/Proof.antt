@@ -1,7 +1,7 @@
 -- `gather` meets its contract. The invariant: what the terms below u bring is in its place.
-use mathlib.Core.Path.{_≡_, refl, sym, ap, _∙_}
+use mathlib.Core.Path.{_≡_, refl, _∙_}
 use mathlib.Core.List.{List, []}
-use Prim.Native.Nat.{ℕ, _+_, _-_, _≤_, _<_}
+use Prim.Native.Nat.{ℕ, _-_, _≤_}
 use native.Mathlib.Nat.{zero-add}
 use native.Mathlib.Omega.{arith}
 use lib.Pow.{pow-mono}
@@ -12,10 +12,6 @@ use Rattle.producer.proofs.Emitting.{turn-count, turn-list}
 use Rattle.producer.proofs.Gathering.{term-asks, all-terms, few-terms}
 use Rattle.producer.proofs.expand.gather.Statement.{statement}
 use Rattle.producer.proofs.expand.gather.Tie as tie
-use Rattle.producer.proofs.expand.gather.Reads as reads
-use Rattle.producer.proofs.expand.gather.Lts as lts
-use Rattle.anf.proofs.points.Reads as points-reads
-use Rattle.producer.proofs.expand.add_term.Reads as add-term-reads
 
 abbrev Inv-loop : tie.InvT-loop
 Inv-loop rule m s words to b list₀ n count₀ u₀ list count u =
@@ -25,24 +21,19 @@ Inv-loop rule m s words to b list₀ n count₀ u₀ list count u =
 abbrev μ-loop : tie.MeasureT-loop
 μ-loop rule m s words to b list₀ n count₀ u₀ list count u = n - u
 
--- src/expand.rt:168:9
 points-requires : tie.Need-points-requires Inv-loop μ-loop
 points-requires c κs = omega (arith, bounds (c .before .before .before .args .m) (c .before .before .before .args .s) 1 (c .before .before .before .pre .1 .limits) .m-high)
 
--- src/expand.rt:171:5
 loop-holds : tie.Need-loop-holds Inv-loop μ-loop
 unfolding joined insertedAll
 loop-holds c = (omega arith, refl, refl, refl)
 
--- src/expand.rt:172:45
 shared-slice-read-add-term : tie.Need-shared-slice-read-add-term Inv-loop μ-loop
 shared-slice-read-add-term c = omega (arith, c .before .before .before .points .ensures, c .before .before .before .before .before .before .before .pre .1 .words-all)
 
--- src/expand.rt:172:55
 cast-add-term : tie.Need-cast-add-term Inv-loop μ-loop
 cast-add-term c = omega (arith, c .before .before .before .points .ensures, pow-mono (bounds (c .before .before .before .before .before .before .before .args .m) (c .before .before .before .before .before .before .before .args .s) 1 (c .before .before .before .before .before .before .before .pre .1 .limits) .m-high), c .before .loop-test .taken)
 
--- src/expand.rt:172:9
 add-term-requires : tie.Need-add-term-requires Inv-loop μ-loop
 add-term-requires c κs = (
   omega (arith, bounds (c .before .before .before .before .before .before .before .before .args .m) (c .before .before .before .before .before .before .before .before .args .s) 1 (c .before .before .before .before .before .before .before .before .pre .1 .limits) .m-high),
@@ -50,15 +41,12 @@ add-term-requires c κs = (
       (omega (arith, c .before .before .before .before .points .ensures, c .before .before .loop-test .taken)) (c .before .before .before .loop .inv .2)),
 )
 
--- src/expand.rt:173:9
 add-u : tie.Need-add-u Inv-loop μ-loop
 add-u c = omega (arith, c .before .before .before .before .before .before .before .points .ensures, pow-mono (bounds (c .before .before .before .before .before .before .before .before .before .before .before .args .m) (c .before .before .before .before .before .before .before .before .before .before .before .args .s) 1 (c .before .before .before .before .before .before .before .before .before .before .before .pre .1 .limits) .m-high), c .before .before .before .before .before .loop-test .taken)
 
--- src/expand.rt:171:5
 loop-less : tie.Need-loop-less Inv-loop μ-loop
 loop-less c = omega arith
 
--- src/expand.rt:171:5
 loop-again : tie.Need-loop-again Inv-loop μ-loop
 loop-again c =
     let f : ℕ → List ℕ = λ v. brought (c .before .before .before .before .before .before .before .before .before .before .before .args .rule .now) (c .before .before .before .before .before .before .before .before .before .before .before .args .m) (c .before .before .before .before .before .before .before .before .before .before .before .args .s) (c .before .before .before .before .before .before .before .before .before .before .before .args .to) (c .before .before .before .before .before .before .before .before .before .before .before .args .b) (getD (c .before .before .before .before .before .before .before .before .before .before .before .args .words .now) v 0) v in
@@ -69,11 +57,9 @@ loop-again c =
       turn-list f (c .before .before .before .before .before .before .loop .u) [] _ _ (c .before .before .before .before .before .before .loop .inv .3) (r .ensures .1),
     )
 
--- src/expand.rt:155:1
 same-length : tie.Need-same-length Inv-loop μ-loop
 same-length c = c .before .loop .inv .1
 
--- src/expand.rt:155:1
 returns : tie.Need-returns Inv-loop μ-loop
 returns c =
     let e = all-terms (c .before .before .before .before .before .before .args .rule .now) (c .before .before .before .before .before .before .args .m) (c .before .before .before .before .before .before .args .s) (λ v. getD (c .before .before .before .before .before .before .args .words .now) v 0) _ _ (c .before .before .before .before .before .before .pre .1) (c .before .before .before .before .before .before .args .to) (c .before .before .before .before .before .before .args .b) (c .before .loop .u) (c .before .loop .count) _

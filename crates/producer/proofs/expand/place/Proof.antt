@@ -1,6 +1,6 @@
 -- `place` meets its contract. The invariant: what is left to do from here gives what the whole gives.
 use mathlib.Core.Path.{_≡_, refl, sym, ap, _∙_}
-use Prim.Native.Nat.{ℕ, _+_, _-_, _<_, _≤_}
+use Prim.Native.Nat.{ℕ, _-_, _<_, _≤_}
 use native.Mathlib.Omega.{arith}
 use lib.ListN.{length, take, length-set}
 use borrow.Author.Needs.{needs}
@@ -8,9 +8,6 @@ use Rattle.producer.specs.Expanding.{inserted}
 use Rattle.producer.proofs.Inserting.{going, going-on, going-end}
 use Rattle.producer.proofs.expand.place.Statement.{statement}
 use Rattle.producer.proofs.expand.place.Tie as tie
-use Rattle.producer.proofs.expand.place.Reads as reads
-use Rattle.producer.proofs.expand.place.Lts as lts
-use Rattle.producer.proofs.expand.settle.Reads as settle-reads
 
 abbrev Inv-loop : tie.InvT-loop
 Inv-loop list₀ n t carry₀ i₀ list carry i = (i ≤ n) × (length list ≡ length list₀) × (going n list i carry ≡ inserted t (take n list₀))

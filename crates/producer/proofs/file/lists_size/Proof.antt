@@ -1,6 +1,6 @@
 -- `lists_size` meets its contract. The invariant: the records of the first i lists are counted.
 use mathlib.Core.Path.{_≡_, refl, sym, ap, _∙_, subst}
-use Prim.Native.Nat.{ℕ, _+_, _-_, _*_, _≤_, _<_}
+use Prim.Native.Nat.{ℕ, _-_, _*_, _≤_}
 use native.Mathlib.Nat.{mod-lt}
 use native.Mathlib.Omega.{arith}
 use lib.ListN.{length, getD, take}
@@ -10,9 +10,6 @@ use Rattle.producer.specs.Expanding.{Gathers, listRecords}
 use Rattle.producer.proofs.Writing.{records-none, size-more, size-all}
 use Rattle.producer.proofs.file.lists_size.Statement.{statement}
 use Rattle.producer.proofs.file.lists_size.Tie as tie
-use Rattle.producer.proofs.file.lists_size.Reads as reads
-use Rattle.producer.proofs.file.lists_size.Lts as lts
-use Rattle.producer.proofs.expand.gather.Reads as gather-reads
 
 abbrev Inv-loop : tie.InvT-loop
 Inv-loop rule m s words list₀ n size₀ i₀ list size i =
@@ -21,47 +18,36 @@ Inv-loop rule m s words list₀ n size₀ i₀ list size i =
 abbrev μ-loop : tie.MeasureT-loop
 μ-loop rule m s words list₀ n size₀ i₀ list size i = n - i
 
--- src/file.rt:20:13
 mul-n : tie.Need-mul-n Inv-loop μ-loop
 mul-n c = omega (arith, bounds (c .before .before .before .args .m) (c .before .before .before .args .s) 1 (c .before .before .before .pre .limits) .bits)
 
--- src/file.rt:23:5
 loop-holds : tie.Need-loop-holds Inv-loop μ-loop
 loop-holds c = (omega arith, refl, sym (ap length (records-none (directLists (c .before .before .before .args .m) (c .before .before .before .args .s) (λ u. getD (c .before .before .before .args .words .now) u 0)))), omega arith)
 
--- src/file.rt:24:47
 div-gather : tie.Need-div-gather Inv-loop μ-loop
 div-gather c = omega (arith, bounds (c .before .before .before .before .before .args .m) (c .before .before .before .before .before .args .s) 1 (c .before .before .before .before .before .pre .limits) .m-low)
 
--- src/file.rt:24:54
 rem-gather : tie.Need-rem-gather Inv-loop μ-loop
 rem-gather c = omega (arith, bounds (c .before .before .before .before .before .args .m) (c .before .before .before .before .before .args .s) 1 (c .before .before .before .before .before .pre .limits) .m-low)
 
--- src/file.rt:24:13
 gather-requires : tie.Need-gather-requires Inv-loop μ-loop
 gather-requires c κs = (mod-lt (c .before .before .loop .i) (omega (arith, bounds (c .before .before .before .before .before .before .args .m) (c .before .before .before .before .before .before .args .s) 1 (c .before .before .before .before .before .before .pre .limits) .m-low)), subst (λ (k : ℕ). Gathers (c .before .before .before .before .before .before .args .rule .now) (c .before .before .before .before .before .before .args .m) (c .before .before .before .before .before .before .args .s) (length (c .before .before .before .before .before .before .args .words .now)) k) (sym (c .before .before .loop .inv .1)) (c .before .before .before .before .before .before .pre))
 
--- src/file.rt:25:16
 add-size : tie.Need-add-size Inv-loop μ-loop
 add-size c = omega (arith, c .before .before .before .before .before .loop .inv .3, bounds (c .before .before .before .before .before .before .before .before .before .args .m) (c .before .before .before .before .before .before .before .before .before .args .s) 1 (c .before .before .before .before .before .before .before .before .before .pre .limits) .bits, c .before .before .before .before .loop-test .taken)
 
--- src/file.rt:25:27
 mul-size : tie.Need-mul-size Inv-loop μ-loop
 mul-size c = omega (arith, c .before .before .gather .ensures .0 .1)
 
--- src/file.rt:25:16
 add-size-2 : tie.Need-add-size-2 Inv-loop μ-loop
 add-size-2 c = omega (arith, c .before .before .before .before .before .loop .inv .3, bounds (c .before .before .before .before .before .before .before .before .before .args .m) (c .before .before .before .before .before .before .before .before .before .args .s) 1 (c .before .before .before .before .before .before .before .before .before .pre .limits) .bits, c .before .before .before .before .loop-test .taken, c .before .before .gather .ensures .0 .1)
 
--- src/file.rt:26:9
 add-i : tie.Need-add-i Inv-loop μ-loop
 add-i c = omega (arith, bounds (c .before .before .before .before .before .before .before .before .before .args .m) (c .before .before .before .before .before .before .before .before .before .args .s) 1 (c .before .before .before .before .before .before .before .before .before .pre .limits) .bits, c .before .before .before .before .loop-test .taken)
 
--- src/file.rt:23:5
 loop-less : tie.Need-loop-less Inv-loop μ-loop
 loop-less c = omega arith
 
--- src/file.rt:23:5
 loop-again : tie.Need-loop-again Inv-loop μ-loop
 loop-again c = (
   omega arith,
@@ -70,11 +56,9 @@ loop-again c = (
   omega (arith, c .before .before .before .before .before .loop .inv .3, c .before .before .gather .ensures .0 .1),
 )
 
--- src/file.rt:16:1
 same-length : tie.Need-same-length Inv-loop μ-loop
 same-length c = c .before .loop .inv .1
 
--- src/file.rt:16:1
 returns : tie.Need-returns Inv-loop μ-loop
 returns c = (c .before .loop .inv .2 ∙ size-all (c .before .before .before .before .before .args .m) (c .before .before .before .before .before .args .s) (λ u. getD (c .before .before .before .before .before .args .words .now) u 0) (c .before .loop .i) _ refl (omega arith), omega (arith, c .before .loop .inv .3, bounds (c .before .before .before .before .before .args .m) (c .before .before .before .before .before .args .s) 1 (c .before .before .before .before .before .pre .limits) .bits))
 

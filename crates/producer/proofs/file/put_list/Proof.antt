@@ -1,18 +1,13 @@
 -- `put_list` meets its contract. The invariant: the first j terms are written.
-use mathlib.Core.Path.{_≡_, refl, sym, ap, _∙_}
+use mathlib.Core.Path.{_≡_, refl, ap, _∙_}
 use mathlib.Core.List.{List}
-use Prim.Native.Nat.{ℕ, _+_, _-_, _*_, _≤_, _<_}
+use Prim.Native.Nat.{ℕ, _+_, _-_, _≤_}
 use native.Mathlib.Omega.{arith}
 use lib.ListN.{length, take, length-take}
-use borrow.Author.Needs.{needs}
 use Rattle.design.specs.Bytes.{termBytes, overwrite}
 use Rattle.producer.proofs.Writing.{term-put, terms-none, list-record, list-record-length}
 use Rattle.producer.proofs.file.put_list.Statement.{statement}
 use Rattle.producer.proofs.file.put_list.Tie as tie
-use Rattle.producer.proofs.file.put_list.Reads as reads
-use Rattle.producer.proofs.file.put_list.Lts as lts
-use Rattle.design.proofs.put_head.Reads as put-head-reads
-use Rattle.design.proofs.put_term.Reads as put-term-reads
 
 abbrev Inv-loop : tie.InvT-loop
 Inv-loop out₀ at list n j₀ out j =
@@ -21,51 +16,39 @@ Inv-loop out₀ at list n j₀ out j =
 abbrev μ-loop : tie.MeasureT-loop
 μ-loop out₀ at list n j₀ out j = n - j
 
--- src/file.rt:48:23
 mul-put-head : tie.Need-mul-put-head Inv-loop μ-loop
 mul-put-head c = omega arith
 
--- src/file.rt:48:5
 put-head-requires : tie.Need-put-head-requires Inv-loop μ-loop
 put-head-requires c κs = omega arith
 
--- src/file.rt:50:5
 loop-holds : tie.Need-loop-holds Inv-loop μ-loop
 loop-holds c = (omega arith, refl, terms-none _ (c .before .before .before .before .before .before .args .list .now) (c .before .before .before .before .before .before .args .at + 4))
 
--- src/file.rt:51:23
 add-put-term : tie.Need-add-put-term Inv-loop μ-loop
 add-put-term c = omega arith
 
--- src/file.rt:51:32
 mul-put-term : tie.Need-mul-put-term Inv-loop μ-loop
 mul-put-term c = omega arith
 
--- src/file.rt:51:23
 add-put-term-2 : tie.Need-add-put-term-2 Inv-loop μ-loop
 add-put-term-2 c = omega arith
 
--- src/file.rt:51:39
 mul-put-term-2 : tie.Need-mul-put-term-2 Inv-loop μ-loop
 mul-put-term-2 c = omega arith
 
--- src/file.rt:51:39
 shared-slice-read-put-term : tie.Need-shared-slice-read-put-term Inv-loop μ-loop
 shared-slice-read-put-term c = omega arith
 
--- src/file.rt:51:9
 put-term-requires : tie.Need-put-term-requires Inv-loop μ-loop
 put-term-requires c κs = omega (arith, c .before .before .before .loop .inv .1, c .before .before .before .before .before .before .put-head .kept .0)
 
--- src/file.rt:52:9
 add-j : tie.Need-add-j Inv-loop μ-loop
 add-j c = omega arith
 
--- src/file.rt:50:5
 loop-less : tie.Need-loop-less Inv-loop μ-loop
 loop-less c = omega arith
 
--- src/file.rt:50:5
 loop-again : tie.Need-loop-again Inv-loop μ-loop
 loop-again c = (
   omega arith,
@@ -73,23 +56,18 @@ loop-again c = (
   c .before .before .put-term .ensures ∙ term-put (c .before .before .before .before .before .before .loop .out) _ (c .before .before .before .before .before .before .before .before .before .before .before .before .before .args .list .now) (c .before .before .before .before .before .before .before .before .before .before .before .before .before .args .at + 4) (c .before .before .before .before .before .before .loop .j) (omega arith) (omega (arith, c .before .before .before .before .before .before .before .before .before .put-head .kept .0)) (c .before .before .before .before .before .before .loop .inv .2),
 )
 
--- src/file.rt:54:5
 add-result : tie.Need-add-result Inv-loop μ-loop
 add-result c = omega arith
 
--- src/file.rt:54:14
 mul-result : tie.Need-mul-result Inv-loop μ-loop
 mul-result c = omega arith
 
--- src/file.rt:54:5
 add-result-2 : tie.Need-add-result-2 Inv-loop μ-loop
 add-result-2 c = omega arith
 
--- src/file.rt:43:1
 same-length : tie.Need-same-length Inv-loop μ-loop
 same-length c = c .before .loop .inv .1 ∙ c .before .before .before .before .put-head .kept .0
 
--- src/file.rt:43:1
 returns : tie.Need-returns Inv-loop μ-loop
 returns c =
     let e : c .before .loop .j ≡ c .before .before .before .before .before .before .before .before .args .n = omega arith in

@@ -1,6 +1,6 @@
 -- `put_lists` meets its contract. The invariant: the records of the first i lists are written.
 use mathlib.Core.Path.{_≡_, refl, sym, ap, _∙_, subst}
-use Prim.Native.Nat.{ℕ, _+_, _-_, _*_, _≤_, _<_}
+use Prim.Native.Nat.{ℕ, _+_, _-_, _*_, _≤_}
 use native.Mathlib.Nat.{mod-lt}
 use native.Mathlib.Omega.{arith}
 use lib.ListN.{length, getD, take}
@@ -12,10 +12,6 @@ use Rattle.producer.specs.Expanding.{Gathers, listRecords}
 use Rattle.producer.proofs.Writing.{records-none, size-all, room-more, at-more, lists-more, lists-all}
 use Rattle.producer.proofs.file.put_lists.Statement.{statement}
 use Rattle.producer.proofs.file.put_lists.Tie as tie
-use Rattle.producer.proofs.file.put_lists.Reads as reads
-use Rattle.producer.proofs.file.put_lists.Lts as lts
-use Rattle.producer.proofs.expand.gather.Reads as gather-reads
-use Rattle.producer.proofs.file.put_list.Reads as put-list-reads
 
 abbrev Inv-loop : tie.InvT-loop
 Inv-loop rule m s words list₀ out₀ from n at₀ i₀ list out at i =
@@ -25,29 +21,23 @@ Inv-loop rule m s words list₀ out₀ from n at₀ i₀ list out at i =
 abbrev μ-loop : tie.MeasureT-loop
 μ-loop rule m s words list₀ out₀ from n at₀ i₀ list out at i = n - i
 
--- src/file.rt:71:13
 mul-n : tie.Need-mul-n Inv-loop μ-loop
 mul-n c = omega (arith, bounds (c .before .before .before .before .args .m) (c .before .before .before .before .args .s) 1 (c .before .before .before .before .pre .0 .limits) .bits)
 
--- src/file.rt:74:5
 loop-holds : tie.Need-loop-holds Inv-loop μ-loop
 loop-holds c =
     let e = records-none (directLists (c .before .before .before .before .args .m) (c .before .before .before .before .args .s) (λ u. getD (c .before .before .before .before .args .words .now) u 0)) in
     (omega arith, refl, refl, omega (arith, ap length e), sym (ap (overwrite (c .before .before .before .before .args .out .now) (c .before .before .before .before .args .from)) e ∙ overwrite-nil (c .before .before .before .before .args .out .now) (c .before .before .before .before .args .from)))
 
--- src/file.rt:75:47
 div-gather : tie.Need-div-gather Inv-loop μ-loop
 div-gather c = omega (arith, bounds (c .before .before .before .before .before .before .args .m) (c .before .before .before .before .before .before .args .s) 1 (c .before .before .before .before .before .before .pre .0 .limits) .m-low)
 
--- src/file.rt:75:54
 rem-gather : tie.Need-rem-gather Inv-loop μ-loop
 rem-gather c = omega (arith, bounds (c .before .before .before .before .before .before .args .m) (c .before .before .before .before .before .before .args .s) 1 (c .before .before .before .before .before .before .pre .0 .limits) .m-low)
 
--- src/file.rt:75:13
 gather-requires : tie.Need-gather-requires Inv-loop μ-loop
 gather-requires c κs = (mod-lt (c .before .before .loop .i) (omega (arith, bounds (c .before .before .before .before .before .before .before .args .m) (c .before .before .before .before .before .before .before .args .s) 1 (c .before .before .before .before .before .before .before .pre .0 .limits) .m-low)), subst (λ (k : ℕ). Gathers (c .before .before .before .before .before .before .before .args .rule .now) (c .before .before .before .before .before .before .before .args .m) (c .before .before .before .before .before .before .before .args .s) (length (c .before .before .before .before .before .before .before .args .words .now)) k) (sym (c .before .before .loop .inv .1)) (c .before .before .before .before .before .before .before .pre .0))
 
--- src/file.rt:76:9
 put-list-requires : tie.Need-put-list-requires Inv-loop μ-loop
 put-list-requires c κs =
     let r = room-more (c .before .before .before .before .before .before .before .before .before .before .before .before .args .m) (c .before .before .before .before .before .before .before .before .before .before .before .before .args .s) (λ u. getD (c .before .before .before .before .before .before .before .before .before .before .before .before .args .words .now) u 0) (c .before .before .before .before .before .before .before .loop .i) _ refl (c .before .before .before .before .before .before .loop-test .taken) in (
@@ -56,15 +46,12 @@ put-list-requires c κs =
       c .before .before .before .before .gather .ensures .0 .1,
     )
 
--- src/file.rt:77:9
 add-i : tie.Need-add-i Inv-loop μ-loop
 add-i c = omega (arith, bounds (c .before .before .before .before .before .before .before .before .before .before .before .before .before .before .before .args .m) (c .before .before .before .before .before .before .before .before .before .before .before .before .before .before .before .args .s) 1 (c .before .before .before .before .before .before .before .before .before .before .before .before .before .before .before .pre .0 .limits) .bits, c .before .before .before .before .before .before .before .before .before .loop-test .taken)
 
--- src/file.rt:74:5
 loop-less : tie.Need-loop-less Inv-loop μ-loop
 loop-less c = omega arith
 
--- src/file.rt:74:5
 loop-again : tie.Need-loop-again Inv-loop μ-loop
 loop-again c = (
   omega arith,
@@ -74,15 +61,12 @@ loop-again c = (
   lists-more (c .before .before .before .before .before .before .before .before .before .before .before .before .before .before .before .args .m) (c .before .before .before .before .before .before .before .before .before .before .before .before .before .before .before .args .s) (λ u. getD (c .before .before .before .before .before .before .before .before .before .before .before .before .before .before .before .args .words .now) u 0) (c .before .before .before .before .before .before .before .before .before .before .before .before .before .before .before .args .out .now) (c .before .before .before .before .before .before .before .before .before .before .loop .out) _ (c .before .before .before .before .before .before .before .before .before .before .before .before .before .before .before .args .from) (c .before .before .before .before .before .before .before .before .before .before .loop .at) (c .before .before .before .before .before .before .before .before .before .before .loop .i) _ _ refl (c .before .before .before .before .before .before .before .before .before .loop-test .taken) (omega (arith, c .before .before .before .before .before .before .before .before .before .before .before .before .before .before .before .pre .1)) (c .before .before .before .before .before .before .before .before .before .before .loop .inv .3) (c .before .before .before .before .before .before .before .before .before .before .loop .inv .4) (c .before .before .before .before .before .before .before .gather .ensures .1) (c .before .before .put-list .ensures .1),
 )
 
--- src/file.rt:58:1
 same-length : tie.Need-same-length Inv-loop μ-loop
 same-length c = c .before .loop .inv .1
 
--- src/file.rt:58:1
 same-length-2 : tie.Need-same-length-2 Inv-loop μ-loop
 same-length-2 c = c .before .loop .inv .2
 
--- src/file.rt:58:1
 returns : tie.Need-returns Inv-loop μ-loop
 returns c =
     let e : c .before .loop .i ≡ c .before .before .before .before .before .before .args .m * c .before .before .before .before .before .before .args .s = omega arith in (

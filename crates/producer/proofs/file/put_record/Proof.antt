@@ -1,44 +1,32 @@
 -- `put_record` meets its contract: a head, and the body behind it.
-use mathlib.Core.Path.{_≡_, refl, sym, ap, _∙_}
+use mathlib.Core.Path.{ap, _∙_}
 use mathlib.Core.List.{List}
 use Prim.Native.Nat.{ℕ, _+_}
 use native.Mathlib.Omega.{arith}
-use lib.ListN.{length}
 use Rattle.design.specs.Bytes.{overwrite}
 use Rattle.design.proofs.Overwriting.{record-length, overwrite-record}
 use borrow.Author.Needs.{needs}
 use Rattle.producer.proofs.file.put_record.Statement.{statement}
 use Rattle.producer.proofs.file.put_record.Tie as tie
-use Rattle.producer.proofs.file.put_record.Reads as reads
-use Rattle.producer.proofs.file.put_record.Lts as lts
-use Rattle.design.proofs.put_bytes.Reads as put-bytes-reads
-use Rattle.design.proofs.put_head.Reads as put-head-reads
 
--- src/file.rt:37:5
 put-head-requires : tie.Need-put-head-requires
 put-head-requires c κs = omega (arith, c .before .before .before .pre .0, c .before .before .before .pre .1, c .before .before .before .pre .2, record-length (c .before .before .before .args .kind) (c .before .before .before .args .body .now))
 
--- src/file.rt:38:20
 add-put-bytes : tie.Need-add-put-bytes
 add-put-bytes c = search needs
 
--- src/file.rt:38:5
 put-bytes-requires : tie.Need-put-bytes-requires
 put-bytes-requires c κs = omega (arith, c .before .before .before .before .before .before .before .pre .0, record-length (c .before .before .before .before .before .before .before .args .kind) (c .before .before .before .before .before .before .before .args .body .now), c .before .before .before .put-head .kept .0)
 
--- src/file.rt:39:5
 add-result : tie.Need-add-result
 add-result c = search needs
 
--- src/file.rt:39:5
 add-result-2 : tie.Need-add-result-2
 add-result-2 c = search needs
 
--- src/file.rt:32:1
 same-length : tie.Need-same-length
 same-length c = search needs
 
--- src/file.rt:32:1
 returns : tie.Need-returns
 returns c = (
   omega (arith, record-length (c .before .before .before .before .before .before .before .before .before .before .args .kind) (c .before .before .before .before .before .before .before .before .before .before .args .body .now)),
