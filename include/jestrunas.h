@@ -110,7 +110,7 @@ jestrunas_run_t jestrunas_run(const uint8_t *file, size_t file_len, jestrunas_sh
 /*
  * Writes the direct sharing of a table in s shares as a design file of one stage. Answers 0 and the file's length,
  * the bytes past it untouched; or 4, 3, 5, 8, 16 or 17, tested in this order, and length 0, the output untouched.
- * What is produced reads, is correct and non-complete: its verdict is 0 or 14. 16,583 bytes of output are always enough.
+ * What is produced reads, is correct and non-complete: with enough workspace its verdict is 0 or 14.
  */
 jestrunas_produced_t jestrunas_produce(size_t m, size_t s, const uint8_t *table, size_t table_len, uint8_t *output,
                                        size_t output_len);

@@ -176,7 +176,8 @@ pub fn numbers(verdict: &Verdict) -> [usize; 3] {
 /// The workspace that is enough for every design: 2^20 / 8 bytes.
 pub const WORKSPACE_MAX: usize = 131_072;
 
-/// An output that is enough for every file that [`produce`] writes.
+/// An output that is enough for every file that [`produce`] writes: at m = 5 and s = 4, where it is longest, a table of degree 3 has at
+/// most 821 products for each of its 5 bits, of 4 bytes each, with 163 bytes around them. Counted, not proved: a shorter output gives 17.
 pub const PRODUCED_MAX: usize = 16_583;
 
 fn reason(number: usize) -> Option<Reason> {
