@@ -1,4 +1,5 @@
-// Builds c/plain.c with gcc, and with clang where it is there, each under its own prefix, at -O3 for this machine.
+// Builds c/plain.c at -O3, each time under its own prefix: with gcc for this machine and for any x86-64, which is what the library is
+// built for, and with clang for this machine where it is there.
 use std::path::Path;
 use std::process::Command;
 
@@ -12,13 +13,13 @@ fn main() {
     println!("cargo::rustc-check-cfg=cfg(clang)");
     let out = std::env::var("OUT_DIR").expect("cargo sets it");
     println!("cargo::rustc-link-search=native={out}");
-    for compiler in ["gcc", "clang"] {
-        let object = format!("{out}/plain_{compiler}.o");
-        let archive = format!("{out}/libplain_{compiler}.a");
-        let prefix = format!("-DPREFIX={compiler}_");
-        let built = run(compiler, &["-O3", "-march=native", &prefix, "-c", "c/plain.c", "-o", &object]);
+    for (name, compiler, target) in [("gcc", "gcc", "-march=native"), ("any", "gcc", "-march=x86-64"), ("clang", "clang", "-march=native")] {
+        let object = format!("{out}/plain_{name}.o");
+        let archive = format!("{out}/libplain_{name}.a");
+        let prefix = format!("-DPREFIX={name}_");
+        let built = run(compiler, &["-O3", target, &prefix, "-c", "c/plain.c", "-o", &object]);
         if built && run("ar", &["rcs", &archive, &object]) && Path::new(&archive).exists() {
-            println!("cargo::rustc-link-lib=static=plain_{compiler}");
+            println!("cargo::rustc-link-lib=static=plain_{name}");
             if compiler == "clang" {
                 println!("cargo::rustc-cfg=clang");
             }

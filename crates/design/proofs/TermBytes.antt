@@ -1,13 +1,14 @@
 -- Laws of lists of terms and their bytes.
 use mathlib.Core.Path.{_≡_, refl, sym, ap, _∙_}
 use mathlib.Core.List.{List, [], _∷_}
-use Prim.Native.Nat.{ℕ, zero, suc, _+_, _*_, _/_, _%_, _<_, _≤_}
+use Prim.Native.Nat.{ℕ, zero, suc, _+_, _*_, _/_, _%_, _^_, _<_, _≤_}
 use native.Mathlib.Numerals.{towards-suc, unary-clauses}
 use native.Mathlib.Omega.{arith}
 use lib.ListN.{length, getD, drop, length-drop}
 use lib.Seq.{drop-cons}
-use lib.Bits.{bitXor, xor-zero-r}
-use Rattle.anf.proofs.Xor.{xor-assoc}
+use lib.Bits.{bitAnd, bitOr, bitXor, xor-zero-r, or-add-and}
+use borrow.Author.Tests.{eq-eqb, ne-eqb}
+use Rattle.anf.proofs.Xor.{xor-assoc, bit-cases}
 use Rattle.anf.specs.Tests.{pick}
 use Rattle.anf.specs.NormalForm.{subset}
 use Rattle.anf.specs.Terms.{valueAt}
@@ -86,6 +87,23 @@ left-step l x at s s′ v h i e p =
     ∙ ap (λ (n : ℕ). bitXor s (bitXor n (valueAt (terms (drop (at + 4) l)) x))) (sym p)
     ∙ ap (λ (ts : List ℕ). bitXor s (valueAt ts x)) (sym (terms-cons l at h))
     ∙ i
+
+-- one term more is 1: of a count, only its last bit matters, and it may wrap
+parity : (n n′ : ℕ) → n′ ≡ (n + 1) % 2 ^ 32 → n′ % 2 ≡ bitXor (n % 2) 1
+parity n n′ e = bit-cases (λ b. n′ % 2 ≡ (b + 1) % 2 → n′ % 2 ≡ bitXor b 1) (λ q. q) (λ q. q) n (omega arith)
+
+module _ (l : List ℕ) (x at n n′ : ℕ) (h : at + 4 ≤ length l) (i : Left l x at (n % 2)) where
+  pub left-counted : n′ ≡ (n + 1) % 2 ^ 32 → bitOr (u32At l at) x ≡ x → Left l x (at + 4) (n′ % 2)
+  unfolding subset
+  left-counted e o =
+      let q : bitAnd (u32At l at) x ≡ u32At l at = omega (arith, or-add-and (u32At l at) x) in
+      left-step l x at (n % 2) (n′ % 2) 1 h i (parity n n′ e) (simp (eq-eqb _ _ q))
+
+  pub left-passed : n′ ≡ n → (bitOr (u32At l at) x ≡ x → ⊥) → Left l x (at + 4) (n′ % 2)
+  unfolding subset
+  left-passed e o =
+      let q : bitAnd (u32At l at) x ≡ u32At l at → ⊥ = λ z. o (omega (arith, or-add-and (u32At l at) x)) in
+      left-step l x at (n % 2) (n′ % 2) 0 h i (ap (λ (k : ℕ). k % 2) e ∙ sym (xor-zero-r (n % 2))) (simp (ne-eqb _ _ q))
 
 pub left-end : (l : List ℕ) (x at s : ℕ) → length l < at + 4 → Left l x at s → s ≡ valueAt (terms l) x
 unfolding valueAt

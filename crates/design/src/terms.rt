@@ -28,18 +28,18 @@ pub fn term(list: &[u8], j: usize) -> u32
     word(list, 4 * j)
 }
 
-// The value at `x` of a list.
+// The value at `x` of a list: how many of its terms are 1 there, modulo 2.
 pub fn value(list: &[u8], x: u32) -> u32
     ensures { λ r. ⌜ r ≡ valueAt (terms (now (list .entry))) x ⌝ }
 {
-    let mut sum: u32 = 0;
+    let mut n: u32 = 0;
     let mut at: usize = 0;
     while at + 4 <= list.len() {
         let t = word(list, at);
-        if t & x == t {
-            sum = sum ^ 1;
+        if t | x == x {
+            n = std::num::wrapping_add_u32(n, 1);
         }
         at += 4;
     }
-    sum
+    n % 2
 }

@@ -1,5 +1,5 @@
-//! The published operations against plain C of the same method (c/plain.c), built by gcc -O3 -march=native and, where it
-//! is there, by clang: all in one run, the best of several rounds in turn, as ratios of the library's
+//! The published operations against plain C of the same method (c/plain.c), built by gcc -O3 -march=native, by gcc -O3 for any
+//! x86-64, as the library is, and, where it is there, by clang -O3 -march=native: all in one run, the best of several rounds in turn, as ratios of the library's
 //! processor time to theirs.
 //!
 //!     cargo run --release -p bench [-- ROUNDS]
@@ -63,9 +63,10 @@ operations!(
     "jestrunas_produce",
     "jestrunas_to_coefficients"
 );
-operations!(gcc, "gcc", "gcc_read", "gcc_judge", "gcc_run", "gcc_produce", "gcc_to_coefficients");
+operations!(gcc, "gcc native", "gcc_read", "gcc_judge", "gcc_run", "gcc_produce", "gcc_to_coefficients");
+operations!(any, "gcc x86-64", "any_read", "any_judge", "any_run", "any_produce", "any_to_coefficients");
 #[cfg(clang)]
-operations!(clang, "clang", "clang_read", "clang_judge", "clang_run", "clang_produce", "clang_to_coefficients");
+operations!(clang, "clang native", "clang_read", "clang_judge", "clang_run", "clang_produce", "clang_to_coefficients");
 
 /// The processor time of this thread so far, which other programs on the machine do not add to.
 fn now() -> Duration {
@@ -118,6 +119,7 @@ fn main() {
     let all = [
         library::OPERATIONS,
         gcc::OPERATIONS,
+        any::OPERATIONS,
         #[cfg(clang)]
         clang::OPERATIONS,
     ];

@@ -1,21 +1,19 @@
--- `design::value` meets its contract. The invariant: what is summed so far, with the value of the terms from `at` on, is the value of all.
+-- `design::value` meets its contract. The invariant: the last bit of the count so far, with the value of the terms from `at` on, gives the value of all.
 use native.Mathlib.Omega.{arith}
-use mathlib.Core.Path.{refl, sym, _∙_}
-use Prim.Native.Nat.{_-_, _≤_}
+use mathlib.Core.Path.{refl, _∙_}
+use Prim.Native.Nat.{_-_, _%_, _≤_}
 use mathlib.Core.Logic.{⊎-elim}
 use lib.ListN.{length}
-use lib.Bits.{xor-zero-r}
-use borrow.Author.Tests.{eq-eqb, ne-eqb}
-use Rattle.anf.specs.NormalForm.{subset}
-use Rattle.design.proofs.TermBytes.{Left, left-step, left-end}
+use borrow.Author.Needs.{needs}
+use Rattle.design.proofs.TermBytes.{Left, left-counted, left-passed, left-end}
 use Rattle.design.proofs.terms.value.Statement.{statement}
 use Rattle.design.proofs.terms.value.Tie as tie
 
 abbrev Inv-loop : tie.InvT-loop
-Inv-loop list x sum₀ at₀ sum at = (at ≤ length list) × Left list x at sum
+Inv-loop list x n₀ at₀ n at = (at ≤ length list) × Left list x at (n % 2)
 
 abbrev μ-loop : tie.MeasureT-loop
-μ-loop list x sum₀ at₀ sum at = length list - at
+μ-loop list x n₀ at₀ n at = length list - at
 
 loop-holds : tie.Need-loop-holds Inv-loop μ-loop
 loop-holds c = (omega arith, refl)
@@ -26,6 +24,9 @@ add-loop c = omega arith
 word-requires : tie.Need-word-requires Inv-loop μ-loop
 word-requires c κs = omega arith
 
+wrapping-add-u32-requires : tie.Need-wrapping-add-u32-requires Inv-loop μ-loop
+wrapping-add-u32-requires c κs = search needs
+
 add-at : tie.Need-add-at Inv-loop μ-loop
 add-at c = omega arith
 
@@ -33,14 +34,13 @@ loop-less : tie.Need-loop-less Inv-loop μ-loop
 loop-less c = omega arith
 
 loop-again : tie.Need-loop-again Inv-loop μ-loop
-unfolding subset
 loop-again c =
     let l = c .before .before in
     let e = c .before .word .ensures in (
       omega arith,
       ⊎-elim
-          (λ w. left-step _ _ _ (l .before .loop .sum) _ 1 (l .loop-test .taken) (l .before .loop .inv .1) (w .1) (rw (← e) (simp (eq-eqb _ _ (w .0 .taken)))))
-          (λ w. left-step _ _ _ (l .before .loop .sum) _ 0 (l .loop-test .taken) (l .before .loop .inv .1) (w .1 ∙ sym (xor-zero-r _)) (rw (← e) (simp (ne-eqb _ _ (w .0 .left)))))
+          (λ w. left-counted _ _ _ (l .before .loop .n) _ (l .loop-test .taken) (l .before .loop .inv .1) (w .2 ∙ w .1 .ensures) (rw (← e) (w .0 .taken)))
+          (λ w. left-passed _ _ _ (l .before .loop .n) _ (l .loop-test .taken) (l .before .loop .inv .1) (w .1) (rw (← e) (w .0 .left)))
           (c .if1 .came),
     )
 
@@ -56,6 +56,7 @@ value-spec =
     loop-holds
     add-loop
     word-requires
+    wrapping-add-u32-requires
     add-at
     loop-less
     loop-again
