@@ -40,7 +40,7 @@ pub fn correct_stage(file: &[u8], layout: Layout, t: usize) -> bool
     let s = layout.head.s;
     let tries = sharings(layout);
     let table = design::table(file, layout, t);
-    let records = threshold::lists(file, layout, t);
+    let records = design::lists(file, layout, t);
     let bits = layout.head.m * layout.head.s;
     let mut x: u32 = 0;
     while x < tries {
@@ -104,7 +104,7 @@ fn mark_all(file: &[u8], layout: Layout, t: usize, workspace: &mut [u8]) -> bool
     ensures { λ r. ⌜ (r ≡ repeatsBy (sharingsOf layout) (output (stageOf (meaning (now (file .entry))) t .lists))) × (drop (marksOf layout) (now (workspace .exit)) ≡ drop (marksOf layout) (now (workspace .entry))) ⌝ }
 {
     let n = sharings(layout);
-    let records = threshold::lists(file, layout, t);
+    let records = design::lists(file, layout, t);
     let count = layout.head.m * layout.head.s;
     let mut x: u32 = 0;
     while x < n {

@@ -11,6 +11,7 @@ pub mod TermBytes
 pub mod Overwriting
 pub mod Formed
 pub mod Answered
+pub mod StageLists
 pub mod Encoded
 pub mod Nested
 pub mod Theorems

@@ -5,4 +5,5 @@ pub mod Bytes
 pub mod Encode
 pub mod Reading
 pub mod Layout
+pub mod StageLists
 pub mod Bench

@@ -1,5 +1,5 @@
--- What a layout that describes a file tells of the file's stages: how many there are, and how many lists each has. Assumes nothing.
-use mathlib.Core.Path.{_≡_, sym, ap, ap₂, _∙_, subst}
+-- What a layout that describes a file tells of the file's stages: how many there are, and which lists code may read. Assumes nothing.
+use mathlib.Core.Path.{_≡_, sym, ap, _∙_}
 use mathlib.Core.List.{List}
 use Prim.Native.Nat.{ℕ, _+_, _*_, _^_, _≤_, _<_}
 use native.Mathlib.Nat.{lt-of-lt-of-le}
@@ -13,6 +13,7 @@ use Rattle.design.specs.Reading.{meaning}
 use Rattle.design.specs.Layout.{Describes}
 use Rattle.design.specs.declared.Layout.{Layout}
 use Rattle.design.proofs.Answered.{described}
+use Rattle.design.proofs.StageLists.{lists-length}
 use Rattle.design.proofs.TermBytes.{terms-of-bytes}
 use Rattle.threshold.specs.Stages.{output}
 use Rattle.threshold.proofs.Output.{window-lt}
@@ -21,14 +22,9 @@ module _ (f : List ℕ) (l : Layout) (d : Describes f l) where
   pub stages-length : length (meaning f .stages) ≡ l .head .k
   stages-length = let r = described d in r .formed .count ∙ sym (r .k)
 
-  pub lists-length : (t : ℕ) → t < l .head .k → length (stageOf (meaning f) t .lists) ≡ l .head .m * l .head .s
-  lists-length t u =
-      let r = described d in
-      r .formed .stage t (subst (λ (k : ℕ). t < k) (r .k) u) .count ∙ sym (ap₂ _*_ (r .m) (r .s))
-
   -- the lists from list `from` on that code may read
   pub lists-fit : (t from n : ℕ) → t < l .head .k → from + n ≤ l .head .m * l .head .s → from + n ≤ length (stageOf (meaning f) t .lists)
-  lists-fit t from n u h = rw (lists-length t u) h
+  lists-fit t from n u h = rw (lists-length f l d t u) h
 
   -- what code has read of them is below 2^20
   pub window-small : (t from n i x : ℕ) → t < l .head .k → from + n ≤ l .head .m * l .head .s

@@ -7,5 +7,5 @@ pub mod Stages
 pub mod Meetings
 pub mod Dependence
 pub mod Described
-pub mod Records
+pub mod Walk
 pub mod Running

@@ -2,5 +2,4 @@
 pub mod Sharing
 pub mod Stages
 pub mod Chain
-pub mod Records
 pub mod Running

@@ -1,56 +1,14 @@
 // The output of a stage at a sharing, from the file's bytes, and the sum of a sharing.
-use design::Head;
 use design::Layout;
 ghost use mathlib.Core.Path.{_≡_};
 ghost use Prim.Native.Nat.{_+_, _-_, _*_, _^_, _≤_, _<_};
-ghost use lib.ListN.{length, getD, take, drop};
-ghost use Rattle.design.specs.Bytes.{u16At};
+ghost use lib.ListN.{take, drop};
 ghost use Rattle.design.specs.Design.{stageOf};
-ghost use Rattle.design.specs.Reading.{numberOf, meaning};
-ghost use Rattle.design.specs.Layout.{Limits, Describes};
+ghost use Rattle.design.specs.Reading.{meaning};
+ghost use Rattle.design.specs.Layout.{Describes};
+ghost use Rattle.design.specs.StageLists.{Holds, listsOf};
 ghost use Rattle.threshold.specs.Sharing.{sum};
 ghost use Rattle.threshold.specs.Stages.{output, component};
-ghost use Rattle.threshold.specs.Records.{Holds, listsOf};
-
-// The number of the record of the first list of stage `t`.
-fn first(h: Head, t: usize) -> usize
-    requires { ⌜ Limits h × (t < h .k) ⌝ }
-    ensures { λ r. ⌜ (r ≡ numberOf h t 1) × (r < 88) ⌝ }
-{
-    2 + t * (1 + h.m * h.s) + 1
-}
-
-// Where the body of record `i` starts.
-fn start(layout: Layout, i: usize) -> usize
-    requires { ⌜ i < 88 ⌝ }
-    ensures { λ r. ⌜ r ≡ getD (layout .starts) i 0 ⌝ }
-{
-    layout.starts[i]
-}
-
-// The file from the records of the lists of stage `t` on.
-pub fn lists(file: &[u8], layout: Layout, t: usize) -> &[u8]
-    requires { ⌜ Describes (now file) layout × (t < layout .head .k) ⌝ }
-    ensures { λ r. ⌜ Holds (layout .head .m * layout .head .s) (now r) × (listsOf (layout .head .m * layout .head .s) (now r) ≡ stageOf (meaning (now (file .entry))) t .lists) ⌝ }
-{
-    let i = first(layout.head, t);
-    let from = start(layout, i);
-    &file[from - 4..]
-}
-
-fn wide(b: u8) -> usize
-    ensures { λ r. ⌜ (r ≡ b) × (r < 256) ⌝ }
-{
-    b as usize
-}
-
-// The length of the body of the record at `at`.
-fn size(records: &[u8], at: usize) -> usize
-    requires { ⌜ at + 2 ≤ length (now records) ⌝ }
-    ensures { λ r. ⌜ (r ≡ u16At (now (records .entry)) at) × (r < 65536) ⌝ }
-{
-    wide(records[at]) + 256 * wide(records[at + 1])
-}
 
 // The bit `v` at place `i`.
 fn placed_bit(v: u32, i: usize) -> u32
@@ -69,11 +27,9 @@ pub fn output_of(records: &[u8], n: usize, x: u32) -> u32
     let mut at: usize = 0;
     let mut i: usize = 0;
     while i < n {
-        let from = at + 4;
-        let next = from + size(records, at);
-        let v = design::value(&records[from..next], x);
+        let v = design::value(design::body(records, at), x);
         y = y + placed_bit(v, i);
-        at = next;
+        at = design::behind(records, at);
         i += 1;
     }
     y
@@ -84,7 +40,11 @@ pub fn output_at(file: &[u8], layout: Layout, t: usize, x: u32) -> u32
     requires { ⌜ Describes (now file) layout × (t < layout .head .k) ⌝ }
     ensures { λ r. ⌜ (r ≡ output (stageOf (meaning (now (file .entry))) t .lists) x) × (r < 2 ^ (layout .head .m * layout .head .s)) ⌝ }
 {
-    output_of(lists(file, layout, t), layout.head.m * layout.head.s, x)
+    output_of(
+        design::lists(file, layout, t),
+        layout.head.m * layout.head.s,
+        x,
+    )
 }
 
 // The output at the sharing `x` of the `n` lists of stage `t` that start at list `from`.

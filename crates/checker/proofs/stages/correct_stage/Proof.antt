@@ -10,7 +10,7 @@ use Rattle.anf.specs.Tests.{all}
 use Rattle.anf.proofs.Testing.{all-more}
 use Rattle.design.proofs.Answered.{described}
 use Rattle.threshold.specs.Sharing.{sum}
-use Rattle.threshold.specs.Records.{listsOf}
+use Rattle.design.specs.StageLists.{listsOf}
 use Rattle.checker.proofs.Judging.{agreesAt, wrong-lists, right-lists, table-points}
 use Rattle.checker.proofs.stages.correct_stage.Statement.{statement}
 use Rattle.checker.proofs.stages.correct_stage.Tie as tie

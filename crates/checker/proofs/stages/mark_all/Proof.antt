@@ -5,7 +5,7 @@ use native.Mathlib.Omega.{arith}
 use mathlib.Core.List.{List}
 use Rattle.design.proofs.Answered.{described}
 use Rattle.threshold.specs.Stages.{output}
-use Rattle.threshold.specs.Records.{listsOf}
+use Rattle.design.specs.StageLists.{listsOf}
 use Rattle.checker.specs.Marks.{repeatsBy, sharingsOf}
 use Rattle.checker.proofs.Marking.{Run, run-start, run-found, run-step, run-rest}
 use Rattle.checker.proofs.Judging.{sharings-whole}

@@ -2,7 +2,7 @@
 use native.Mathlib.Omega.{arith}
 use Prim.Native.Nat.{_-_, _≤_}
 use Rattle.anf.proofs.Terms.{valueAt-lt}
-use Rattle.threshold.proofs.Records.{Walked, walked-first, walked-fits, walked-next, walked-small, walked-last, body-value}
+use Rattle.threshold.proofs.Walk.{Walked, walked-first, walked-fits, walked-next, walked-small, walked-last, body-value}
 use Rattle.threshold.proofs.engine.output_of.Statement.{statement}
 use Rattle.threshold.proofs.engine.output_of.Tie as tie
 
@@ -15,44 +15,32 @@ abbrev μ-loop : tie.MeasureT-loop
 loop-holds : tie.Need-loop-holds Inv-loop μ-loop
 loop-holds c = (omega arith, walked-first _ _ _ (c .before .pre .0))
 
-add-from : tie.Need-add-from Inv-loop μ-loop
-add-from c = let w = walked-fits _ _ _ _ _ _ (c .before .loop .inv .1) (c .loop-test .taken) in omega arith
-
-size-requires : tie.Need-size-requires Inv-loop μ-loop
-size-requires c κs = let w = walked-fits _ _ _ _ _ _ (c .before .loop .inv .1) (c .loop-test .taken) in omega arith
-
-add-next : tie.Need-add-next Inv-loop μ-loop
-add-next c = let w = walked-fits _ _ _ _ _ _ (c .before .before .loop .inv .1) (c .before .loop-test .taken) in let e = c .size .ensures .0 in omega arith
-
-sub-value : tie.Need-sub-value Inv-loop μ-loop
-sub-value c = let w = walked-fits _ _ _ _ _ _ (c .before .before .loop .inv .1) (c .before .loop-test .taken) in let e = c .size .ensures .0 in omega arith
-
-part-value-start : tie.Need-part-value-start Inv-loop μ-loop
-part-value-start c = let w = walked-fits _ _ _ _ _ _ (c .before .before .loop .inv .1) (c .before .loop-test .taken) in let e = c .size .ensures .0 in omega arith
-
-part-value-end : tie.Need-part-value-end Inv-loop μ-loop
-part-value-end c = let w = walked-fits _ _ _ _ _ _ (c .before .before .loop .inv .1) (c .before .loop-test .taken) in let e = c .size .ensures .0 in omega arith
+body-requires : tie.Need-body-requires Inv-loop μ-loop
+body-requires c κs = walked-fits _ _ _ _ _ _ (c .before .loop .inv .1) (c .loop-test .taken)
 
 value-requires : tie.Need-value-requires Inv-loop μ-loop
 value-requires c κs = tt
 
 placed-bit-requires : tie.Need-placed-bit-requires Inv-loop μ-loop
 placed-bit-requires c κs =
-    let a = c .before .before .before .before .before .before .args in
+    let a = c .before .before .before .before .before .args in
     let e = c .value .ensures in
-    let n = c .before .before .before .before .before .before .pre .1 in
-    let u = c .before .before .before .loop-test .taken in
+    let n = c .before .before .before .before .before .pre .1 in
+    let u = c .before .before .loop-test .taken in
     (rw e (valueAt-lt _ (a .x)), omega arith)
 
 add-y : tie.Need-add-y Inv-loop μ-loop
 add-y c =
-    let a = c .before .before .before .before .before .before .before .args in
-    let o = c .before .before .before .before .before .loop in
-    let n = c .before .before .before .before .before .before .before .pre .1 in
-    let u = walked-small _ _ (a .x) (o .i) (o .at) (o .y) (c .before .value .result) (o .inv .1) (c .before .before .before .before .loop-test .taken) n
-    (body-value _ (o .at) _ _ (a .x) (c .before .before .before .size .ensures .0) (c .before .value .ensures)) in
+    let a = c .before .before .before .before .before .before .args in
+    let o = c .before .before .before .before .loop in
+    let n = c .before .before .before .before .before .before .pre .1 in
+    let u = walked-small _ _ (a .x) (o .i) (o .at) (o .y) (c .before .value .result) (o .inv .1) (c .before .before .before .loop-test .taken) n
+    (body-value _ _ (o .at) _ (a .x) (c .before .before .body .ensures) (c .before .value .ensures)) in
     let e = c .placed-bit .ensures in
     omega arith
+
+behind-requires : tie.Need-behind-requires Inv-loop μ-loop
+behind-requires c κs = walked-fits _ _ _ _ _ _ (c .before .before .before .before .loop .inv .1) (c .before .before .before .loop-test .taken)
 
 add-i : tie.Need-add-i Inv-loop μ-loop
 add-i c = omega arith
@@ -65,9 +53,9 @@ loop-again c =
     let a = c .before .before .before .before .before .before .before .args in
     let o = c .before .before .before .before .before .loop in (
       omega arith,
-      rw (c .before .before .before .size .ensures .0, c .placed-bit .ensures)
-          (walked-next _ _ (a .x) (o .i) (o .at) (o .y) (c .before .value .result) (o .inv .1) (c .before .before .before .before .loop-test .taken)
-          (body-value _ (o .at) _ _ (a .x) (c .before .before .before .size .ensures .0) (c .before .value .ensures))),
+      rw (c .behind .ensures, c .before .placed-bit .ensures)
+          (walked-next _ _ (a .x) (o .i) (o .at) (o .y) (c .before .before .value .result) (o .inv .1) (c .before .before .before .before .loop-test .taken)
+          (body-value _ _ (o .at) _ (a .x) (c .before .before .before .body .ensures) (c .before .before .value .ensures))),
     )
 
 returns : tie.Need-returns Inv-loop μ-loop
@@ -80,15 +68,11 @@ output-of-spec =
     Inv-loop
     μ-loop
     loop-holds
-    add-from
-    size-requires
-    add-next
-    sub-value
-    part-value-start
-    part-value-end
+    body-requires
     value-requires
     placed-bit-requires
     add-y
+    behind-requires
     add-i
     loop-less
     loop-again
