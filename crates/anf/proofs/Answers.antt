@@ -11,7 +11,7 @@ use borrow.Author.Tests.{lt-ltb, le-ltb, eq-eqb, ne-eqb, ltb-false, eqb-true, no
 use Rattle.anf.specs.Tests.{pick, tabulate}
 use Rattle.anf.specs.NormalForm.{subsetSum, degree}
 use Rattle.anf.specs.Tables.{entriesBelow, wordsDegree}
-use Rattle.anf.specs.Transform.{transformReason, transformAfter, transformed, sumAt}
+use Rattle.anf.specs.Transform.{greatestWidth, transformReason, transformAfter, transformed, sumAt}
 use Rattle.anf.proofs.Testing.{or-false, tabulate-congr, tabulate-length, tabulate-at}
 use Rattle.anf.proofs.Transform.{subsetSum-twice, subsetSum-ext, subsetSum-lt}
 use Rattle.anf.proofs.Tables.{entries-at, entries-intro, words-degree}
@@ -30,11 +30,11 @@ module _ (m : ℕ) (t out : List ℕ) where
   narrow a = (simp (lt-ltb _ _ a), simp (lt-ltb _ _ a))
 
   module _ (a : 1 ≤ m) where
-    pub wide : 6 < m → Answered 4 out
+    pub wide : greatestWidth < m → Answered 4 out
     unfolding transformReason transformAfter
     wide b = (simp (le-ltb _ _ a, lt-ltb _ _ b), simp (le-ltb _ _ a, lt-ltb _ _ b))
 
-    module _ (b : m ≤ 6) (n : ℕ) (e : n ≡ 2 ^ m) where
+    module _ (b : m ≤ greatestWidth) (n : ℕ) (e : n ≡ 2 ^ m) where
       pub uneven : (length t ≡ n → ⊥) → Answered 3 out
       unfolding transformReason transformAfter
       uneven f =
@@ -79,7 +79,7 @@ no-refusal false r rest p e = (refl, e)
 
 pub record Accepted (m : ℕ) (input : List ℕ) (room : ℕ) : Type 0 where
   pub least : 1 ≤ m
-  pub most : m ≤ 6
+  pub most : m ≤ greatestWidth
   pub size : length input ≡ 2 ^ m
   pub below : entriesBelow input (2 ^ m) ≡ true
   pub room-enough : 2 ^ m ≤ room
@@ -87,14 +87,14 @@ pub record Accepted (m : ℕ) (input : List ℕ) (room : ℕ) : Type 0 where
 pub reason-accepted : (m : ℕ) (input : List ℕ) (room : ℕ) → transformReason m input room ≡ 0 → Accepted m input room
 unfolding transformReason
 reason-accepted m input room e =
-    let p = no-refusal (ltb m 1 || ltb 6 m) 4 _ (omega arith) e in
+    let p = no-refusal (ltb m 1 || ltb greatestWidth m) 4 _ (omega arith) e in
     let q = no-refusal (not (eqb (length input) (2 ^ m))) 3 _ (omega arith) (p .1) in
     let r = no-refusal (not (entriesBelow input (2 ^ m))) 5 _ (omega arith) (q .1) in
     let s = no-refusal (ltb room (2 ^ m)) 17 0 (omega arith) (r .1) in
-    let w = or-false (ltb m 1) (ltb 6 m) (p .0) in
+    let w = or-false (ltb m 1) (ltb greatestWidth m) (p .0) in
     record {
       least = ltb-false m 1 (w .0);
-      most = ltb-false 6 m (w .1);
+      most = ltb-false greatestWidth m (w .1);
       size = eqb-true (length input) (2 ^ m) (not-false (eqb (length input) (2 ^ m)) (q .0));
       below = not-false (entriesBelow input (2 ^ m)) (r .0);
       room-enough = ltb-false room (2 ^ m) (s .0);

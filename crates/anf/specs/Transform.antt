@@ -9,10 +9,14 @@ use Rattle.anf.specs.Sums.{xorBelow}
 use Rattle.anf.specs.NormalForm.{subset, subsetSum}
 use Rattle.anf.specs.Tables.{entriesBelow}
 
--- The number of the refusal, or 0. 4: m is not 1 to 6. 3: the input has not 2^m bytes. 5: a word is 2^m or more. 17: the output is shorter than 2^m bytes.
+-- the greatest width of a table
+abbrev pub greatestWidth : ℕ
+greatestWidth = 6
+
+-- The number of the refusal, or 0. 4: m is not 1 to the greatest width. 3: the input has not 2^m bytes. 5: a word is 2^m or more. 17: the output is shorter than 2^m bytes.
 unfoldable pub transformReason : ℕ → List ℕ → ℕ → ℕ
 transformReason m input room =
-    pick (ltb m 1 || ltb 6 m) 4
+    pick (ltb m 1 || ltb greatestWidth m) 4
     (pick (not (eqb (length input) (2 ^ m))) 3 (pick (not (entriesBelow input (2 ^ m))) 5 (pick (ltb room (2 ^ m)) 17 0)))
 
 -- the 2^m words that are the result

@@ -9,9 +9,12 @@ ghost use Rattle.anf.specs.Tests.{pick, any, tabulate};
 ghost use Rattle.anf.specs.Tables.{entriesBelow, repeats, wordsDegree};
 ghost use Rattle.anf.specs.Transform.{sumAt, transformReason, transformAfter};
 
+// The greatest width of a table.
+pub const GREATEST_WIDTH: usize = 6;
+
 // The number of points of m variables.
 pub fn points(m: usize) -> usize
-    requires { ⌜ m ≤ 20 ⌝ }
+    requires { ⌜ m < 64 ⌝ }
     ensures { λ r. ⌜ r ≡ 2 ^ m ⌝ }
 {
     1 << m
@@ -63,7 +66,7 @@ fn stands_below(table: &[u8], i: usize) -> bool
 
 // The degree that coefficient words give.
 pub fn words_degree(words: &[u8]) -> usize
-    requires { ⌜ length (now words) ≤ 2 ^ 20 ⌝ }
+    requires { ⌜ length (now words) ≤ 2 ^ 32 ⌝ }
     ensures { λ r. ⌜ r ≡ wordsDegree (now (words .entry)) ⌝ }
 {
     let mut degree: usize = 0;
@@ -128,7 +131,7 @@ fn convert(m: usize, input: &[u8], output: &mut [u8]) -> usize
     if m < 1 {
         return 4;
     }
-    if 6 < m {
+    if GREATEST_WIDTH < m {
         return 4;
     }
     let n = points(m);

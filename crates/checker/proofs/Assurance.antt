@@ -6,6 +6,7 @@ use mathlib.Core.List.{List}
 use Prim.Native.Nat.{ℕ, _-_, _^_, _<_, _≤_}
 use native.Mathlib.Omega.{arith}
 use lib.ListN.{length}
+use Rattle.design.specs.Limits.{greatestShares}
 use Rattle.design.specs.Design.{Design, WellFormed, stageOf}
 use Rattle.design.proofs.Limits.{bounds}
 use Rattle.design.proofs.Theorems.{read-formed}
@@ -44,7 +45,7 @@ module _ (f : List ℕ) (n : ℕ) (d : Design) (a : Accepted f n d) where
         uniform = a .stages t (within l) .uniform;
       }
 
-  shares-most : d .s ≤ 5
+  shares-most : d .s ≤ greatestShares
   shares-most = bounds (d .m) (d .s) (d .k) (formed .limits) .s-high
 
   accepted-assured : Assured f d

@@ -7,6 +7,7 @@ use lib.Dec.{eqb}
 use lib.ListN.{length, getD}
 use Rattle.anf.specs.Tests.{count}
 use Rattle.anf.specs.Sums.{xorBelow}
+use Rattle.design.specs.Limits.{greatestShares}
 use Rattle.design.specs.Design.{Design, entry, stageOf}
 use Rattle.design.specs.Reading.{means, reading}
 use Rattle.threshold.specs.Sharing.{sum, setting}
@@ -16,11 +17,11 @@ use Rattle.threshold.specs.Running.{packed, unpacked, sharesFit, running}
 
 -- the sum of five shares
 abbrev pub fiveSum : List ℕ → ℕ
-fiveSum l = xorBelow 5 (λ j. getD l j 0)
+fiveSum l = xorBelow greatestShares (λ j. getD l j 0)
 
 -- five bytes are a sharing of x: used shares are below 2^m, unused ones zero, and they sum to x
 pub record Shares (d : Design) (x : ℕ) (l : List ℕ) : Type 0 where
-  pub five : length l ≡ 5
+  pub five : length l ≡ greatestShares
   pub fit : sharesFit (d .m) (d .s) l ≡ true
   pub sums : fiveSum l ≡ x
 

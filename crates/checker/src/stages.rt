@@ -7,6 +7,7 @@ ghost use Prim.Native.Nat.{_*_, _^_, _≤_, _<_};
 ghost use lib.Dec.{eqb};
 ghost use lib.ListN.{length, getD, drop};
 ghost use Rattle.anf.specs.Tests.{first};
+ghost use Rattle.design.specs.Limits.{greatestWidth, greatestShares, greatestShareBits};
 ghost use Rattle.design.specs.Design.{stageOf};
 ghost use Rattle.design.specs.Reading.{meaning};
 ghost use Rattle.design.specs.Layout.{Describes};
@@ -16,7 +17,7 @@ ghost use Rattle.checker.specs.Marks.{Clear, repeatsBy, zeroed, sharings
 
 // Whether the output sharing `y` sums to what the table makes of the sum of the sharing `x`.
 fn agrees(table: &[u8], m: usize, s: usize, x: u32, y: u32) -> bool
-    requires { ⌜ (m ≤ 20) × (length (now table) ≡ 2 ^ m) ⌝ }
+    requires { ⌜ (m ≤ greatestWidth) × (length (now table) ≡ 2 ^ m) ⌝ }
     ensures { λ r. ⌜ r ≡ eqb (sum m s y) (getD (now (table .entry)) (sum m s x) 0) ⌝ }
 {
     let secret = threshold::sum_of(x, m, s) as usize;
@@ -25,7 +26,7 @@ fn agrees(table: &[u8], m: usize, s: usize, x: u32, y: u32) -> bool
 
 // How many sharings there are.
 fn sharings(layout: Layout) -> u32
-    requires { ⌜ layout .head .m * layout .head .s ≤ 20 ⌝ }
+    requires { ⌜ layout .head .m * layout .head .s ≤ greatestShareBits ⌝ }
     ensures { λ r. ⌜ (r ≡ sharingsOf layout) × (r < 4294967296) ⌝ }
 {
     anf::points(layout.head.m * layout.head.s) as u32
@@ -55,7 +56,7 @@ pub fn correct_stage(file: &[u8], layout: Layout, t: usize) -> bool
 
 // The variables of share `j`.
 fn own_variables(m: usize, j: usize) -> u32
-    requires { ⌜ (m ≤ 6) × (j < 5) ⌝ }
+    requires { ⌜ (m ≤ greatestWidth) × (j < greatestShares) ⌝ }
     ensures { λ r. ⌜ r ≡ variables m j ⌝ }
 {
     ((anf::points(m) - 1) as u32) << ((m * j) as u32)

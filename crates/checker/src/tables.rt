@@ -1,4 +1,4 @@
-// The tables: their chain, and the first that repeats an entry.
+// The tables: their chain, and the first that repeats an entry. A table has at most 64 entries, 2 to the power of the greatest width.
 use design::Layout;
 ghost use mathlib.Core.Path.{_≡_};
 ghost use Prim.Native.Nat.{ℕ, _^_, _≤_, _<_};

@@ -15,6 +15,7 @@ use lib.Seq.{getD-drop, drop-drop, drop-append-seam, take-append-seam, drop-appe
 use lib.Dec.{eqb}
 use Rattle.anf.specs.Tests.{tabulate}
 use Rattle.design.proofs.Flat.{headFor, stageBody, bodyOf, recordOf, flat}
+use Rattle.design.specs.Limits.{greatestTerms}
 use Rattle.design.specs.Bytes.{byte, u16At, u32At, two, four, termBytes}
 use Rattle.design.specs.Design.{Design, Stage, noStage, stageOf, listOf, TableFits, ListFits, WellFormed}
 use Rattle.design.specs.Encode.{join, aRecord}
@@ -121,7 +122,7 @@ list-zero f h i at ts e w t =
     let z = t .size in
     let q : length (termBytes ts) / 4 ≡ length ts = omega arith in
     let m : length (termBytes ts) % 4 ≡ 0 = omega arith in
-    let n : length (termBytes ts) ≤ 16384 = omega arith in
+    let n : length (termBytes ts) ≤ 4 * greatestTerms = omega arith in
     fault-zero f h i at 3 (termBytes ts) e w (simp (eq-eqb _ _ m, le-leb _ _ n))
     (body-3 f h 3 (at + 4) (length (termBytes ts)) refl ∙ rw q (simp (all-intro (length ts) (termFits f (at + 4) (2 ^ (h .m * h .s))) λ j u.
     term-fits f (at + 4) (2 ^ (h .m * h .s)) j (rises-in f at (h .m * h .s) ts w t j u) (rw (term-in f at 3 ts w j u) (t .terms .below j u)))))

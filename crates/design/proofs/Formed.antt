@@ -11,6 +11,7 @@ use lib.Dec.{eqb, lit<}
 use Rattle.anf.specs.Tests.{all, tabulate}
 use Rattle.anf.specs.Terms.{before}
 use Rattle.anf.proofs.Testing.{and-left, and-right, all-at, tabulate-length, tabulate-at}
+use Rattle.design.specs.Limits.{greatestTerms}
 use Rattle.design.specs.Bytes.{byte, u16At, u32At}
 use Rattle.design.specs.Design.{TableFits, ListFits, StageFits, WellFormed}
 use Rattle.design.specs.Reading.{numberOf, kindDue, sizeDue, lengthDue, entryFits, previous, termFits, faultAt, means, reading, place, headOf, meaning, stageAt, tableAt, listAt}
@@ -50,7 +51,7 @@ module _ (f : List ℕ) (h : Head) (i at : ℕ) (e : faultAt f h i at ≡ 0) whe
   unfolding listAt sizeDue
   list-fits k =
       let w = rw k at (fault-framed f h i at e) in
-      let s = list-size 16384 (u16At f at) (w .size) in
+      let s = list-size (4 * greatestTerms) (u16At f at) (w .size) in
       let c : all (u16At f at / 4) (termFits f (at + 4) (2 ^ (h .m * h .s))) ≡ true = kept _ 0 6 (lit< tt) (sym (body-3 f h 3 (at + 4) (u16At f at) refl) ∙ rw k at (body-none f h i at e)) .0 in
       let n = u16At f at / 4 in
       let g : ℕ → ℕ = λ j. u32At f (at + 4 + 4 * j) in

@@ -14,6 +14,7 @@ use lib.Seq.{getD-take, getD-drop}
 use lib.Arith.{digits-lt, digits-mod, digits-div}
 use lib.Dec.{ltb, eqb, lit<}
 use Rattle.anf.specs.Tests.{pick}
+use Rattle.design.specs.Limits.{greatestTerms}
 use Rattle.design.specs.Bytes.{byte, u16At}
 use Rattle.design.specs.Design.{Design, noStage, stageOf, listOf}
 use Rattle.design.specs.Layout.{Limits, Describes}
@@ -132,7 +133,7 @@ module _ (f : List ℕ) (r : reading f ≡ means (meaning f)) where
     unfolding sizeDue
     table-framed = rw (staged (headOf f) t 0 a (omega arith)) at (fault-framed f (headOf f) (numberOf (headOf f) t 0) _ (fine _ (let n = number-low (headOf f) t 0 a (omega arith) in omega arith)))
 
-    pub list-framed : (i : ℕ) → i < headOf f .m * headOf f .s → Framed f (place f (numberOf (headOf f) t (i + 1))) 3 16384
+    pub list-framed : (i : ℕ) → i < headOf f .m * headOf f .s → Framed f (place f (numberOf (headOf f) t (i + 1))) 3 (4 * greatestTerms)
     unfolding sizeDue
     list-framed i b = rw (staged (headOf f) t (i + 1) a (omega arith), ne-eqb (i + 1) 0 (λ z. omega arith)) at (fault-framed f (headOf f) (numberOf (headOf f) t (i + 1)) _ (fine _ (let n = number-low (headOf f) t (i + 1) a (omega arith) in omega arith)))
 

@@ -12,6 +12,7 @@ use lib.Seq.{take-add, take-all, drop-cons, length-take-le}
 use lib.Dec.{eqb}
 use Rattle.anf.specs.Tests.{tabulate}
 use Rattle.design.proofs.Flat.{headFor, stageBody, bodyOf, recordOf, flat}
+use Rattle.design.specs.Limits.{greatestTerms}
 use Rattle.design.specs.Bytes.{byte, u16At, u32At, termBytes, Bytes}
 use Rattle.design.specs.Design.{Design, stageOf, listOf}
 use Rattle.design.specs.Encode.{join, aRecord}
@@ -173,7 +174,7 @@ module _ (f : List ℕ) (b : Bytes f) (r : reading f ≡ means (meaning f)) wher
   stands-list t l a c =
       let at = place f (numberOf (headOf f) t (l + 1)) in
       let w = list-framed f r t a l c in
-      let v = list-size 16384 (u16At f at) (w .size) in
+      let v = list-size (4 * greatestTerms) (u16At f at) (w .size) in
       let q : 4 * (u16At f at / 4) ≡ u16At f at = omega arith in
       let g : 4 * (u16At f at / 4) + (at + 4) ≤ length f = omega arith in
       body-stage (meaning f) t (suc l) a c ∙ ap termBytes (list-is f r t a l c) ∙ terms-are f b (u16At f at / 4) (at + 4) (omega arith) ∙ (let z : suc l ≡ l + 1 = omega arith in rw (q, z) refl)
@@ -212,7 +213,7 @@ list-part f b y d t l i from a₀ c₀ n₀ e₀ =
     let g : from ≡ at + 4 = e ∙ d .starts (numberOf (headOf f) t (l + 1)) (omega arith) in
     let k : from - 4 ≡ at = omega arith in
     let w = list-framed f (d .read) t a l c in
-    let v = list-size 16384 (u16At f at) (w .size) in
+    let v = list-size (4 * greatestTerms) (u16At f at) (w .size) in
     let q : 4 * (u16At f at / 4) ≡ u16At f at = omega arith in (
       omega arith,
       record {

@@ -5,7 +5,7 @@ use mathlib.Core.Bool.{false}
 use mathlib.Core.List.{List, []}
 use lib.ListN.{length, getD}
 use Rattle.anf.specs.Terms.{TermList, valueAt}
-use Rattle.design.specs.Limits.{broken}
+use Rattle.design.specs.Limits.{greatestTerms, broken}
 
 -- A stage: its table G, and its m × s lists of terms, component 1 first and in each component bit 0 first.
 -- List i gives bit i of the output sharing.
@@ -43,9 +43,9 @@ pub record TableFits (m : ℕ) (t : List ℕ) : Type 0 where
   pub size : length t ≡ 2 ^ m
   pub below : (x : ℕ) → x < 2 ^ m → entry t x < 2 ^ m
 
--- up to 4,096 terms in n variables, strictly rising
+-- up to the greatest number of terms, in n variables, strictly rising
 pub record ListFits (n : ℕ) (ts : List ℕ) : Type 0 where
-  pub size : length ts ≤ 4096
+  pub size : length ts ≤ greatestTerms
   pub terms : TermList n ts
 
 pub record StageFits (m s : ℕ) (g : Stage) : Type 0 where

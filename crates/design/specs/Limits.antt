@@ -1,10 +1,11 @@
--- The limits of the head.
+-- The limits of the head and of a list.
 use Prim.Native.Nat.{ℕ, _*_}
 use mathlib.Core.Bool.{Bool, _||_}
 use lib.Dec.{ltb}
+use Rattle.anf.specs.Transform as transform
 
 abbrev pub greatestWidth : ℕ
-greatestWidth = 6
+greatestWidth = transform.greatestWidth
 
 abbrev pub leastShares : ℕ
 leastShares = 3
@@ -17,6 +18,10 @@ greatestShareBits = 20
 
 abbrev pub greatestStages : ℕ
 greatestStages = 4
+
+-- the greatest number of terms of a list
+abbrev pub greatestTerms : ℕ
+greatestTerms = 4096
 
 -- whether a head number breaks a limit
 unfoldable pub broken : ℕ → ℕ → ℕ → Bool

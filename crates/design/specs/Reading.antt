@@ -6,7 +6,7 @@ use lib.ListN.{length, take, drop}
 use lib.Dec.{ltb, leb, eqb}
 use Rattle.anf.specs.Tests.{pick, all, tabulate}
 use Rattle.anf.specs.Terms.{before}
-use Rattle.design.specs.Limits.{broken}
+use Rattle.design.specs.Limits.{greatestTerms, broken}
 use Rattle.design.specs.Design.{Stage, Design}
 use Rattle.design.specs.Bytes.{byte, u16At, u32At}
 use Rattle.design.specs.declared.Head.{Head}
@@ -40,7 +40,7 @@ kindDue h i =
 
 -- the length due of a kind; of kind 3 the greatest
 unfoldable pub sizeDue : Head → ℕ → ℕ
-sizeDue h kind = pick (eqb kind 1) 3 (pick (eqb kind 2) (2 ^ h .m) (pick (eqb kind 3) 16384 0))
+sizeDue h kind = pick (eqb kind 1) 3 (pick (eqb kind 2) (2 ^ h .m) (pick (eqb kind 3) (4 * greatestTerms) 0))
 
 -- whether a record of this kind may have the length n: of kind 3 a multiple of 4 up to size, else size itself
 unfoldable pub lengthDue : ℕ → ℕ → ℕ → Bool

@@ -24,6 +24,9 @@ pub use writer::put_term;
 ghost use mathlib.Core.Path.{_≡_};
 ghost use Rattle.design.specs.Layout.{checked};
 
+// The greatest number of terms of a list.
+pub const GREATEST_TERMS: usize = 4096;
+
 // The head's three numbers.
 pub struct Head {
     pub m: usize,
@@ -37,7 +40,7 @@ pub enum Checked {
 }
 
 impl Head {
-    pub const GREATEST_WIDTH: usize = 6;
+    pub const GREATEST_WIDTH: usize = anf::GREATEST_WIDTH;
 
     pub const LEAST_SHARES: usize = 3;
 
@@ -76,7 +79,8 @@ impl Head {
     }
 }
 
-// What reading finds: the reason and the place of a refusal, or 0 and where each record's body starts. A file has at most 87 records.
+// What reading finds: the reason and the place of a refusal, or 0 and where each record's body starts.
+// A file has at most 87 records: the head, the box, four stages of a table and 20 lists each, the end.
 pub struct Layout {
     pub reason: usize,
     pub place: usize,

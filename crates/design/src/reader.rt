@@ -1,5 +1,6 @@
 // The tests of each record in the published order, and the walk over all records.
 use super::Checked;
+use super::GREATEST_TERMS;
 use super::Head;
 use super::Layout;
 use super::bytes::pair;
@@ -92,7 +93,7 @@ fn size_due(h: Head, kind: usize) -> usize
         return power(h.m);
     }
     if kind == 3 {
-        return 16384;
+        return 4 * GREATEST_TERMS;
     }
     0
 }

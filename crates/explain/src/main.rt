@@ -175,6 +175,7 @@ fn main() {
     if layout.reason == 0 {
         print_design(file, layout);
     }
+    // a bit for each sharing of the greatest share bits
     let mut workspace = [0u8; 131072];
     print_verdict(checker::judge(file, &mut workspace));
 }

@@ -10,7 +10,7 @@ ghost use Rattle.checker.specs.Verdict.{verdict, workspaceAfter};
 ghost use Rattle.producer.specs.Producing.{producing, outputAfter};
 ghost use Rattle.jestrunas.specs.Published.{readAnswer};
 
-// Five shares, by value; the unused ones are zero.
+// Five shares, the greatest number of them, by value; the unused ones are zero.
 #[repr(C)]
 pub struct Shares {
     pub share: [u8; 5],

@@ -16,7 +16,7 @@ use Rattle.anf.specs.Transform.{transformAfter, transformed}
 use Rattle.anf.proofs.Testing.{pick-true, pick-false, any-congr, tabulate-congr, tabulate-length, tabulate-at}
 use Rattle.anf.proofs.Passing.{passing-congr}
 use Rattle.anf.proofs.Answers.{accepted-answer, transformed-degree}
-use Rattle.design.specs.Limits.{broken}
+use Rattle.design.specs.Limits.{greatestTerms, broken}
 use Rattle.design.specs.Design.{entry}
 use Rattle.design.specs.Bytes.{overwrite}
 use Rattle.design.specs.Layout.{checked}
@@ -156,7 +156,7 @@ module _ (m s : ℕ) (t words : List ℕ) (room : ℕ) (r : Ready m s t words ro
   pub file-size : (n : ℕ) → n ≡ length (listRecords (directLists m s (λ u. getD words u 0))) → 19 + 2 * length t + n ≡ length (produced m s t)
   file-size n e = ap (λ (k : ℕ). 19 + 2 * length t + k) e ∙ sym (file-length m s t (directLists m s (λ u. getD words u 0))) ∙ ap length file-is
 
-  pub ready-gathers : (rule : List ℕ) (size : ℕ) → Follows s rule → 4096 ≤ size → Gathers rule m s (length words) size
+  pub ready-gathers : (rule : List ℕ) (size : ℕ) → Follows s rule → greatestTerms ≤ size → Gathers rule m s (length words) size
   ready-gathers rule size f g = record { limits = r .limits; follows = f; words-all = r .words-all; room = g }
 
   pub short : room < length (produced m s t) → producedReason m s t room ≡ 17

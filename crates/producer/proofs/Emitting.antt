@@ -12,6 +12,7 @@ use lib.ListN.{length, getD, length-append}
 use borrow.Author.Tests.{eq-eqb, ne-eqb}
 use Rattle.anf.specs.Tests.{pick}
 use Rattle.anf.proofs.Testing.{below, pick-true, pick-false}
+use Rattle.design.specs.Limits.{greatestShareBits}
 use Rattle.design.proofs.Limits.{bounds}
 use Rattle.producer.specs.Direct.{has}
 use Rattle.producer.specs.Expanding.{joined, ending, emitted, inserted, insertedAll, Expands}
@@ -109,7 +110,7 @@ module _ (rule : List ℕ) (m s u c : ℕ) where
   }
 
   -- the bit that a share of a variable has in a product
-  pub bit-place : (left J size n j : ℕ) (ts : List ℕ) → Expands rule m s left J size n ts → (left ≡ 0 → ⊥) → j < s → j * m + (left - 1) < 20
+  pub bit-place : (left J size n j : ℕ) (ts : List ℕ) → Expands rule m s left J size n ts → (left ≡ 0 → ⊥) → j < s → j * m + (left - 1) < greatestShareBits
   bit-place left J size n j ts x z l =
       omega (arith, bounds m s 1 (x .limits) .bits, place-lt m s j (left - 1) l (omega (arith, x .within)))
 

@@ -13,25 +13,25 @@ use Rattle.anf.specs.NormalForm.{subsetSum}
 use Rattle.anf.proofs.Testing.{all-at, implies-at, and-left, any-some, any-at}
 use Rattle.anf.proofs.Counting.{count-mono}
 use Rattle.anf.proofs.Passing.{passing-terms, passing-length}
-use Rattle.design.specs.Limits.{broken}
+use Rattle.design.specs.Limits.{greatestTerms, broken}
 use Rattle.design.specs.Design.{entry, TableFits, ListFits, StageFits, WellFormed}
 use Rattle.design.proofs.Limits.{bounds}
 use Rattle.producer.specs.Direct.{has, isProduct, stands, directList, directStage, directSharing}
 use Rattle.producer.proofs.Counts.{products-most}
 use Rattle.producer.proofs.Stage.{list-at, lists-length}
 
--- within the limits (s + 1)^m is at most 4,096: computed for each m and s
-powers : all 7 (λ m. all 6 (λ s. implies (not (broken m s 1)) (leb (suc s ^ m) 4096))) ≡ true
+-- within the limits (s + 1)^m is at most the greatest number of terms: computed for each m and s
+powers : all 7 (λ m. all 6 (λ s. implies (not (broken m s 1)) (leb (suc s ^ m) greatestTerms))) ≡ true
 unfolding all broken
 powers = refl
 
-pub few-products : (m s : ℕ) → broken m s 1 ≡ false → suc s ^ m ≤ 4096
+pub few-products : (m s : ℕ) → broken m s 1 ≡ false → suc s ^ m ≤ greatestTerms
 few-products m s h =
     let b = bounds m s 1 h in
-    leb-true (suc s ^ m) 4096
-    (implies-at (not (broken m s 1)) (leb (suc s ^ m) 4096) (all-at 6 _ (all-at 7 _ powers m (omega (arith, b .m-high))) s (omega (arith, b .s-high))) (ap not h))
+    leb-true (suc s ^ m) greatestTerms
+    (implies-at (not (broken m s 1)) (leb (suc s ^ m) greatestTerms) (all-at 6 _ (all-at 7 _ powers m (omega (arith, b .m-high))) s (omega (arith, b .s-high))) (ap not h))
 
-pub list-size : (m s : ℕ) (f : ℕ → ℕ) (c b : ℕ) → broken m s 1 ≡ false → length (directList m s f c b) ≤ 4096
+pub list-size : (m s : ℕ) (f : ℕ → ℕ) (c b : ℕ) → broken m s 1 ≡ false → length (directList m s f c b) ≤ greatestTerms
 unfolding directList
 list-size m s f c b h =
     omega (

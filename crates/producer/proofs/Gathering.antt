@@ -17,6 +17,7 @@ use Rattle.anf.specs.Terms.{before, passing}
 use Rattle.anf.proofs.Testing.{true-or-false, not-true-false, clash, below, pick-true, pick-false, and-intro, and-left, and-right, or-none, any-at, any-some, all-at, implies-at}
 use Rattle.anf.proofs.Terms.{Rising}
 use Rattle.anf.proofs.Passing.{passing-rising, passing-congr}
+use Rattle.design.specs.Limits.{greatestTerms}
 use Rattle.design.proofs.Limits.{bounds}
 use Rattle.producer.specs.Direct.{has, isProduct, chosen, componentFor, stands, directList}
 use Rattle.producer.specs.Expanding.{joined, ending, emitted, inserted, insertedAll, brought, ruleTables, Follows, Expands, Gathers}
@@ -278,7 +279,7 @@ module _ (rule : List ℕ) (m s : ℕ) (words : ℕ → ℕ) (size wide : ℕ) (
   pub whole-length : length (joined (2 ^ m) each) ≡ length (directList m s words c b)
   whole-length = omega (arith, insertedAll-length (joined (2 ^ m) each) [], ap length whole)
 
-  pub few-terms : length (directList m s words c b) ≤ 4096
+  pub few-terms : length (directList m s words c b) ≤ greatestTerms
   few-terms = list-size m s words c b (g .limits)
 
   pub term-asks : (u count : ℕ) → u < 2 ^ m → count ≡ length (joined u each) → Expands rule m s m 0 size count (each u)

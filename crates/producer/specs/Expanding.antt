@@ -9,7 +9,7 @@ use lib.ListN.{length, getD}
 use Rattle.anf.specs.Tests.{pick, tabulate}
 use Rattle.anf.specs.NormalForm.{subsetSum}
 use Rattle.anf.specs.Terms.{before}
-use Rattle.design.specs.Limits.{broken}
+use Rattle.design.specs.Limits.{greatestTerms, broken}
 use Rattle.design.specs.Bytes.{termBytes}
 use Rattle.design.specs.Encode.{join, aRecord, encode}
 use Rattle.design.specs.Design.{entry}
@@ -67,7 +67,7 @@ pub record Gathers (rule : List ℕ) (m s words size : ℕ) : Type 0 where
   pub limits : broken m s 1 ≡ false
   pub follows : Follows s rule
   pub words-all : 2 ^ m ≤ words
-  pub room : 4096 ≤ size
+  pub room : greatestTerms ≤ size
 
 -- the record of a list
 abbrev pub listRecord : List ℕ → List ℕ

@@ -9,7 +9,7 @@ ghost use lib.Bits.{bitOr};
 ghost use lib.ListN.{length, getD, set, take};
 ghost use Rattle.anf.specs.Tests.{pick};
 ghost use Rattle.anf.specs.Terms.{before};
-ghost use Rattle.design.specs.Limits.{broken};
+ghost use Rattle.design.specs.Limits.{greatestTerms, broken};
 ghost use Rattle.producer.specs.Direct.{directList};
 ghost use Rattle.producer.specs.Direct.{has as hasElement};
 ghost use Rattle.producer.specs.Expanding.{ending, emitted, inserted, insertedAll, brought, ruleTables, Expands, Gathers};
@@ -214,7 +214,7 @@ pub fn gather(
     list: &mut [u32],
 ) -> usize
     requires { ⌜ (b < m) × Gathers (now rule) m s (length (now words)) (length (now list)) ⌝ }
-    ensures { λ r. ⌜ (r ≡ length (directList m s (λ u. getD (now (words .entry)) u 0) to b)) × (r ≤ 4096) ⌝ }
+    ensures { λ r. ⌜ (r ≡ length (directList m s (λ u. getD (now (words .entry)) u 0) to b)) × (r ≤ greatestTerms) ⌝ }
     ensures { λ r. ⌜ take r (now (list .exit)) ≡ directList m s (λ u. getD (now (words .entry)) u 0) to b ⌝ }
 {
     let n = points(m);

@@ -7,6 +7,7 @@ ghost use mathlib.Core.Path.{_≡_};
 ghost use mathlib.Core.List.{List};
 ghost use Prim.Native.Nat.{_+_, _*_, _^_, _<_, _≤_};
 ghost use lib.ListN.{length, getD, take};
+ghost use Rattle.design.specs.Limits.{greatestTerms};
 ghost use Rattle.design.specs.Bytes.{overwrite};
 ghost use Rattle.design.specs.Encode.{aRecord};
 ghost use Rattle.producer.specs.Direct.{directLists};
@@ -41,7 +42,7 @@ fn put_record(out: &mut [u8], at: usize, kind: usize, body: &[u8]) -> usize
 
 // Writes the record of the list of the first n terms, and answers where the next starts.
 fn put_list(out: &mut [u8], at: usize, list: &[u32], n: usize) -> usize
-    requires { ⌜ (at + 4 + 4 * n ≤ length (now out)) × (n ≤ length (now list)) × (n ≤ 4096) ⌝ }
+    requires { ⌜ (at + 4 + 4 * n ≤ length (now out)) × (n ≤ length (now list)) × (n ≤ greatestTerms) ⌝ }
     ensures { λ r. ⌜ r ≡ at + length (listRecord (take n (now (list .entry)))) ⌝ }
     ensures { λ _. ⌜ now (out .exit) ≡ overwrite (now (out .entry)) at (listRecord (take n (now (list .entry)))) ⌝ }
 {

@@ -8,6 +8,7 @@ use anf::repeats;
 use anf::to_coefficients;
 use anf::words_degree;
 use design::Checked;
+use design::GREATEST_TERMS;
 use design::Head;
 use expand::rules;
 use file::lists_size;
@@ -41,7 +42,7 @@ fn share(m: usize, s: usize, table: &[u8], words: &[u8], output: &mut [u8]) -> P
     let sets = points(s);
     let tables = rules();
     let rule = &tables[sets - 8..sets - 8 + sets];
-    let mut list = [0u32; 4096];
+    let mut list = [0u32; GREATEST_TERMS];
     let size = 19 + 2 * table.len() + lists_size(rule, m, s, words, &mut list);
     if output.len() < size {
         return refusal(17);
@@ -69,6 +70,7 @@ fn produce_within(m: usize, s: usize, table: &[u8], output: &mut [u8]) -> Produc
     if repeats(table) {
         return refusal(8);
     }
+    // 2 to the power of the greatest width
     let mut words = [0u8; 64];
     to_coefficients(m, table, &mut words);
     let degree = words_degree(&words[0..n]);

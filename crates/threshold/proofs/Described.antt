@@ -8,6 +8,7 @@ use lib.ListN.{length, take, drop}
 use lib.Pow.{pow-mono}
 use Rattle.anf.specs.Terms.{valueAt}
 use Rattle.design.specs.Bytes.{terms, termBytes}
+use Rattle.design.specs.Limits.{greatestShareBits}
 use Rattle.design.specs.Design.{stageOf}
 use Rattle.design.specs.Reading.{meaning}
 use Rattle.design.specs.Layout.{Describes}
@@ -26,12 +27,12 @@ module _ (f : List ℕ) (l : Layout) (d : Describes f l) where
   pub lists-fit : (t from n : ℕ) → t < l .head .k → from + n ≤ l .head .m * l .head .s → from + n ≤ length (stageOf (meaning f) t .lists)
   lists-fit t from n u h = rw (lists-length f l d t u) h
 
-  -- what code has read of them is below 2^20
+  -- what code has read of them fits the greatest share bits
   pub window-small : (t from n i x : ℕ) → t < l .head .k → from + n ≤ l .head .m * l .head .s
-      → output (drop i (take n (drop from (stageOf (meaning f) t .lists)))) x < 2 ^ 20
+      → output (drop i (take n (drop from (stageOf (meaning f) t .lists)))) x < 2 ^ greatestShareBits
   window-small t from n i x u h =
       let b = described d .bounds in
-      lt-of-lt-of-le (window-lt x n from (stageOf (meaning f) t .lists) (lists-fit t from n u h) i) (pow-mono {j = 20} (omega arith))
+      lt-of-lt-of-le (window-lt x n from (stageOf (meaning f) t .lists) (lists-fit t from n u h) i) (pow-mono {j = greatestShareBits} (omega arith))
 
 -- the value of a list as it stands in a file
 pub list-value : (b ts : List ℕ) (x : ℕ) → b ≡ termBytes ts → valueAt (terms b) x ≡ valueAt ts x

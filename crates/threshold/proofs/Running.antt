@@ -19,6 +19,7 @@ use Rattle.anf.specs.Sums.{xorBelow}
 use Rattle.anf.proofs.Sums.{xorBelow-none, xorBelow-add, xorBelow-ext}
 use Rattle.anf.specs.Tests.{pick, total, tabulate}
 use Rattle.anf.proofs.Testing.{below, all-at, all-intro, pick-true, pick-false, tabulate-at, tabulate-length, tabulate-more}
+use Rattle.design.specs.Limits.{greatestShares, greatestShareBits}
 use Rattle.design.specs.Design.{Stage, Design, noStage}
 use Rattle.design.specs.Reading.{Reading, refused, means, reading, meaning}
 use Rattle.design.specs.Layout.{Describes}
@@ -52,11 +53,11 @@ unused-fit : (w s j : ℕ) → s ≤ j → shareFits w s j 0 ≡ true
 unfolding shareFits
 unused-fit w s j h = pick-false (ltb j s) (ltb 0 (2 ^ w)) (eqb 0 0) (le-ltb j s h)
 
-pub fit-at : (w s : ℕ) (l : List ℕ) → sharesFit w s l ≡ true → (j : ℕ) → j < 5 → shareFits w s j (getD l j 0) ≡ true
+pub fit-at : (w s : ℕ) (l : List ℕ) → sharesFit w s l ≡ true → (j : ℕ) → j < greatestShares → shareFits w s j (getD l j 0) ≡ true
 unfolding sharesFit
-fit-at w s l e j h = all-at 5 (λ i. shareFits w s i (getD l i 0)) e j h
+fit-at w s l e j h = all-at greatestShares (λ i. shareFits w s i (getD l i 0)) e j h
 
-pub share-fits : (w s : ℕ) (l : List ℕ) → sharesFit w s l ≡ true → s ≤ 5 → (j : ℕ) → j < s → getD l j 0 < 2 ^ w
+pub share-fits : (w s : ℕ) (l : List ℕ) → sharesFit w s l ≡ true → s ≤ greatestShares → (j : ℕ) → j < s → getD l j 0 < 2 ^ w
 share-fits w s l e hs j h = fit-used w s j (getD l j 0) (fit-at w s l e j (omega arith)) h
 
 -- ---- five bytes as a sharing
@@ -79,11 +80,11 @@ packed-lt w (suc s) l h =
     (subst (λ (x : ℕ). getD l s 0 * 2 ^ (w * s) + packed w s l < x) (mul-comm (2 ^ w) (2 ^ (w * s)))
     (digits-lt (h s (le-refl (suc s))) (packed-lt w s l (λ j k. h j (le-step k)))))
 
--- what code has packed so far is below 2^20
-pub packed-small : (w s : ℕ) (l : List ℕ) → w * s ≤ 20 → s ≤ 5 → sharesFit w s l ≡ true → (j : ℕ) → j ≤ s → packed w j l < 2 ^ 20
+-- what code has packed so far fits the greatest share bits
+pub packed-small : (w s : ℕ) (l : List ℕ) → w * s ≤ greatestShareBits → s ≤ greatestShares → sharesFit w s l ≡ true → (j : ℕ) → j ≤ s → packed w j l < 2 ^ greatestShareBits
 packed-small w s l b hs e j h =
     let q = mul-le-mul-left w h in
-    lt-of-lt-of-le (packed-lt w j l (λ i k. share-fits w s l e hs i (omega arith))) (pow-mono {j = 20} (omega arith))
+    lt-of-lt-of-le (packed-lt w j l (λ i k. share-fits w s l e hs i (omega arith))) (pow-mono {j = greatestShareBits} (omega arith))
 
 -- a share below place s is one of the low part
 share-low : (w s j a r : ℕ) → j < s → r < 2 ^ (w * s) → share w j (a * 2 ^ (w * s) + r) ≡ share w j r
@@ -113,64 +114,64 @@ share-packed w (suc s) l h j k =
 
 -- ---- a sharing as five bytes
 
-pub unpacked-at : (w s σ j : ℕ) → j < 5 → getD (unpacked w s σ) j 0 ≡ pick (ltb j s) (share w j σ) 0
+pub unpacked-at : (w s σ j : ℕ) → j < greatestShares → getD (unpacked w s σ) j 0 ≡ pick (ltb j s) (share w j σ) 0
 unfolding unpacked
-unpacked-at w s σ j h = tabulate-at 5 (λ i. pick (ltb i s) (share w i σ) 0) j 0 h
+unpacked-at w s σ j h = tabulate-at greatestShares (λ i. pick (ltb i s) (share w i σ) 0) j 0 h
 
-pub unpacked-length : (w s σ : ℕ) → length (unpacked w s σ) ≡ 5
+pub unpacked-length : (w s σ : ℕ) → length (unpacked w s σ) ≡ greatestShares
 unfolding unpacked
-unpacked-length w s σ = tabulate-length 5 (λ i. pick (ltb i s) (share w i σ) 0)
+unpacked-length w s σ = tabulate-length greatestShares (λ i. pick (ltb i s) (share w i σ) 0)
 
-pub unpacked-used : (w s σ j : ℕ) → s ≤ 5 → j < s → getD (unpacked w s σ) j 0 ≡ share w j σ
+pub unpacked-used : (w s σ j : ℕ) → s ≤ greatestShares → j < s → getD (unpacked w s σ) j 0 ≡ share w j σ
 unpacked-used w s σ j hs h = unpacked-at w s σ j (omega arith) ∙ pick-true (ltb j s) (share w j σ) 0 (lt-ltb j s h)
 
-pub unpacked-unused : (w s σ j : ℕ) → s ≤ j → j < 5 → getD (unpacked w s σ) j 0 ≡ 0
+pub unpacked-unused : (w s σ j : ℕ) → s ≤ j → j < greatestShares → getD (unpacked w s σ) j 0 ≡ 0
 unpacked-unused w s σ j h k = unpacked-at w s σ j k ∙ pick-false (ltb j s) (share w j σ) 0 (le-ltb j s h)
 
-pub unpacked-fits : (w s σ : ℕ) → s ≤ 5 → sharesFit w s (unpacked w s σ) ≡ true
+pub unpacked-fits : (w s σ : ℕ) → s ≤ greatestShares → sharesFit w s (unpacked w s σ) ≡ true
 unfolding sharesFit
-unpacked-fits w s σ hs = all-intro 5 (λ j. shareFits w s j (getD (unpacked w s σ) j 0)) (λ j k. go j k (decLt j s))
+unpacked-fits w s σ hs = all-intro greatestShares (λ j. shareFits w s j (getD (unpacked w s σ) j 0)) (λ j k. go j k (decLt j s))
   where
-    go : (j : ℕ) → j < 5 → Dec (j < s) → shareFits w s j (getD (unpacked w s σ) j 0) ≡ true
+    go : (j : ℕ) → j < greatestShares → Dec (j < s) → shareFits w s j (getD (unpacked w s σ) j 0) ≡ true
     go j k (yes h) = rw (unpacked-used w s σ j hs h) (used-fit w s j (share w j σ) h (share-lt w j σ))
     go j k (no h) = let g : s ≤ j = omega arith in rw (unpacked-unused w s σ j g k) (unused-fit w s j g)
 
-pub packed-unpacked : (w s σ : ℕ) → s ≤ 5 → σ < 2 ^ (w * s) → packed w s (unpacked w s σ) ≡ σ
+pub packed-unpacked : (w s σ : ℕ) → s ≤ greatestShares → σ < 2 ^ (w * s) → packed w s (unpacked w s σ) ≡ σ
 packed-unpacked w s σ hs l =
     let small : (j : ℕ) → j < s → getD (unpacked w s σ) j 0 < 2 ^ w = λ j h. rw (unpacked-used w s σ j hs h) (share-lt w j σ) in
     shares-eq w s (packed w s (unpacked w s σ)) σ (packed-lt w s (unpacked w s σ) small) l
     (λ j h. share-packed w s (unpacked w s σ) small j h ∙ unpacked-used w s σ j hs h)
 
-pub unpacked-packed : (w s : ℕ) (l : List ℕ) → s ≤ 5 → length l ≡ 5 → sharesFit w s l ≡ true → unpacked w s (packed w s l) ≡ l
+pub unpacked-packed : (w s : ℕ) (l : List ℕ) → s ≤ greatestShares → length l ≡ greatestShares → sharesFit w s l ≡ true → unpacked w s (packed w s l) ≡ l
 unpacked-packed w s l hs n e =
     ext-getD 0 (unpacked w s (packed w s l)) l (unpacked-length w s (packed w s l) ∙ sym n)
     (λ j h. go j (subst (λ (k : ℕ). j < k) (unpacked-length w s (packed w s l)) h) (decLt j s))
   where
-    go : (j : ℕ) → j < 5 → Dec (j < s) → getD (unpacked w s (packed w s l)) j 0 ≡ getD l j 0
+    go : (j : ℕ) → j < greatestShares → Dec (j < s) → getD (unpacked w s (packed w s l)) j 0 ≡ getD l j 0
     go j k (yes h) = unpacked-used w s (packed w s l) j hs h ∙ share-packed w s l (share-fits w s l e hs) j h
     go j k (no h) =
         let g : s ≤ j = omega arith in
         unpacked-unused w s (packed w s l) j g k ∙ sym (fit-unused w s j (getD l j 0) (fit-at w s l e j k) g)
 
 -- the sum of the five bytes is the value that is shared
-pub unpacked-sum : (w s σ : ℕ) → s ≤ 5 → xorBelow 5 (λ j. getD (unpacked w s σ) j 0) ≡ sum w s σ
+pub unpacked-sum : (w s σ : ℕ) → s ≤ greatestShares → xorBelow greatestShares (λ j. getD (unpacked w s σ) j 0) ≡ sum w s σ
 unpacked-sum w s σ hs =
     let f : ℕ → ℕ = λ j. getD (unpacked w s σ) j 0 in
-    let e : s + (5 - s) ≡ 5 = omega arith in
-    let rest = xorBelow-none (5 - s) (λ i. f (s + i)) (λ i l. unpacked-unused w s σ (s + i) (omega arith) (omega arith)) in
-    ap (λ (k : ℕ). xorBelow k f) (sym e) ∙ xorBelow-add s (5 - s) f ∙ ap (bitXor (xorBelow s f)) rest ∙ xor-zero-r (xorBelow s f)
+    let e : s + (greatestShares - s) ≡ greatestShares = omega arith in
+    let rest = xorBelow-none (greatestShares - s) (λ i. f (s + i)) (λ i l. unpacked-unused w s σ (s + i) (omega arith) (omega arith)) in
+    ap (λ (k : ℕ). xorBelow k f) (sym e) ∙ xorBelow-add s (greatestShares - s) f ∙ ap (bitXor (xorBelow s f)) rest ∙ xor-zero-r (xorBelow s f)
     ∙ xorBelow-ext s f (λ j. share w j σ) (λ j l. unpacked-used w s σ j hs l) ∙ sym (sum-shares w s σ)
 
-pub packed-sum : (w s : ℕ) (l : List ℕ) → s ≤ 5 → length l ≡ 5 → sharesFit w s l ≡ true → sum w s (packed w s l) ≡ xorBelow 5 (λ j. getD l j 0)
+pub packed-sum : (w s : ℕ) (l : List ℕ) → s ≤ greatestShares → length l ≡ greatestShares → sharesFit w s l ≡ true → sum w s (packed w s l) ≡ xorBelow greatestShares (λ j. getD l j 0)
 packed-sum w s l hs n e =
-    sym (unpacked-sum w s (packed w s l) hs) ∙ ap (λ (b : List ℕ). xorBelow 5 (λ j. getD b j 0)) (unpacked-packed w s l hs n e)
+    sym (unpacked-sum w s (packed w s l) hs) ∙ ap (λ (b : List ℕ). xorBelow greatestShares (λ j. getD b j 0)) (unpacked-packed w s l hs n e)
 
 -- filled a place at a time, over zeros
-pub unpacked-filled : (w s σ : ℕ) → s ≤ 5 → tabulate s (λ j. share w j σ) ++ drop s zeros ≡ unpacked w s σ
+pub unpacked-filled : (w s σ : ℕ) → s ≤ greatestShares → tabulate s (λ j. share w j σ) ++ drop s zeros ≡ unpacked w s σ
 unfolding tabulate unpacked
 unpacked-filled w s σ hs = go s hs
   where
-    go : (k : ℕ) → k ≤ 5 → tabulate k (λ j. share w j σ) ++ drop k zeros ≡ unpacked w k σ
+    go : (k : ℕ) → k ≤ greatestShares → tabulate k (λ j. share w j σ) ++ drop k zeros ≡ unpacked w k σ
     go zero h = refl
     go (suc zero) h = refl
     go (suc (suc zero)) h = refl
@@ -180,11 +181,11 @@ unpacked-filled w s σ hs = go s hs
     go (suc (suc (suc (suc (suc (suc k)))))) h = absurd (omega arith)
 
 module _ (w : ℕ) (ls : List (List ℕ)) (x : ℕ) where
-  pub filled-next : (j v : ℕ) (out : List ℕ) → j < 5 → out ≡ tabulate j (λ i. component w ls i x) ++ drop j zeros → v ≡ component w ls j x
+  pub filled-next : (j v : ℕ) (out : List ℕ) → j < greatestShares → out ≡ tabulate j (λ i. component w ls i x) ++ drop j zeros → v ≡ component w ls j x
       → set out j v ≡ tabulate (j + 1) (λ i. component w ls i x) ++ drop (j + 1) zeros
   filled-next j v out h e q = ap₂ (λ (l : List ℕ) (y : ℕ). set l j y) e q ∙ tabulate-more j (λ i. component w ls i x) zeros h
 
-  pub filled-end : (s j : ℕ) (out l : List ℕ) → s ≤ 5 → j ≡ s → x ≡ packed w s l → out ≡ tabulate j (λ i. component w ls i x) ++ drop j zeros
+  pub filled-end : (s j : ℕ) (out l : List ℕ) → s ≤ greatestShares → j ≡ s → x ≡ packed w s l → out ≡ tabulate j (λ i. component w ls i x) ++ drop j zeros
       → out ≡ unpacked w s (output ls (packed w s l))
   filled-end s j out l hs z q e =
       e ∙ ap (λ (k : ℕ). tabulate k (λ i. component w ls i x) ++ drop k zeros) z ∙ unpacked-filled w s (output ls x) hs
@@ -211,8 +212,8 @@ pub record Sent (w s : ℕ) (gs : List Stage) (l at : List ℕ) (t : ℕ) : Type
   pub shares : at ≡ unpacked w s (handed gs t (packed w s l))
   pub small : handed gs t (packed w s l) < 2 ^ (w * s)
 
-module _ (w s : ℕ) (gs : List Stage) (l : List ℕ) (hs : s ≤ 5) where
-  pub sent-start : length l ≡ 5 → sharesFit w s l ≡ true → Sent w s gs l l 0
+module _ (w s : ℕ) (gs : List Stage) (l : List ℕ) (hs : s ≤ greatestShares) where
+  pub sent-start : length l ≡ greatestShares → sharesFit w s l ≡ true → Sent w s gs l l 0
   sent-start n e =
       record {
         shares = sym (ap (unpacked w s) (handed-none gs (packed w s l)) ∙ unpacked-packed w s l hs n e);
@@ -253,7 +254,7 @@ unfolding runningOn
 running-success f l d e u = running-as f l (means d) e ∙ pick-true (sharesFit (d .m) (d .s) l) (success d l) (refusal 15) u
 
 -- the run on the five bytes of a sharing answers 0 and the five bytes of what the last stage gives
-pub running-sharing : (f : List ℕ) (d : Design) → reading f ≡ means d → d .s ≤ 5 → (σ : ℕ) → σ < 2 ^ (d .m * d .s)
+pub running-sharing : (f : List ℕ) (d : Design) → reading f ≡ means d → d .s ≤ greatestShares → (σ : ℕ) → σ < 2 ^ (d .m * d .s)
     → running f (unpacked (d .m) (d .s) σ) ≡ record { reason = 0; shares = unpacked (d .m) (d .s) (handed (d .stages) (d .k) σ) }
 running-sharing f d e hs σ l =
     running-success f (unpacked (d .m) (d .s) σ) d e (unpacked-fits (d .m) (d .s) σ hs)

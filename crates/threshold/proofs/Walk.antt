@@ -10,6 +10,7 @@ use lib.ListN.{length, drop}
 use lib.Pow.{pow-mono}
 use Rattle.anf.specs.Terms.{valueAt}
 use Rattle.anf.proofs.Terms.{valueAt-lt}
+use Rattle.design.specs.Limits.{greatestShareBits}
 use Rattle.design.specs.Bytes.{terms}
 use Rattle.design.specs.StageLists.{bodyAt, behindAt, Holds, listsOf}
 use Rattle.design.proofs.StageLists.{record-fits, record-rest, listsOf-next}
@@ -67,10 +68,10 @@ walked-next b n x i at y v w h ev = go (w .left) (w .all) (w .holds) (w .value)
           small = omega arith;
         }
 
--- what code has made so far is below 2^20
-pub walked-small : (b : List ℕ) (n x i at y v : ℕ) → Walked b n x i at y → i < n → n ≤ 20 → v ≡ valueAt (terms (bodyAt b at)) x
-    → y + v * 2 ^ i < 2 ^ 20
-walked-small b n x i at y v w h l e = lt-of-lt-of-le (walked-next b n x i at y v w h e .small) (pow-mono {j = 20} (omega arith))
+-- what code has made so far fits the greatest share bits
+pub walked-small : (b : List ℕ) (n x i at y v : ℕ) → Walked b n x i at y → i < n → n ≤ greatestShareBits → v ≡ valueAt (terms (bodyAt b at)) x
+    → y + v * 2 ^ i < 2 ^ greatestShareBits
+walked-small b n x i at y v w h l e = lt-of-lt-of-le (walked-next b n x i at y v w h e .small) (pow-mono {j = greatestShareBits} (omega arith))
 
 pub walked-last : (b : List ℕ) (n x i at y : ℕ) → Walked b n x i at y → n ≤ i → (y ≡ output (listsOf n b) x) × (y < 2 ^ n)
 unfolding listsOf output

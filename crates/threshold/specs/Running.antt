@@ -1,10 +1,11 @@
--- Running a chain on five shares, bytes that travel together, unused ones zero.
+-- Running a chain on five shares, the greatest number of them: bytes that travel together, unused ones zero.
 use Prim.Native.Nat.{ℕ, _*_, _^_}
 use mathlib.Core.Bool.{Bool}
 use mathlib.Core.List.{List, [], _∷_}
 use lib.Dec.{eqb, ltb}
 use lib.ListN.{getD}
 use Rattle.anf.specs.Tests.{pick, all, total, tabulate}
+use Rattle.design.specs.Limits.{greatestShares}
 use Rattle.design.specs.Design.{Design}
 use Rattle.design.specs.Reading.{Reading, refused, means, reading}
 use Rattle.threshold.specs.Sharing.{share}
@@ -17,14 +18,14 @@ packed w s l = total s (λ j. getD l j 0 * 2 ^ (w * j))
 
 -- the five bytes of a sharing: its s shares, then zeros
 unfoldable pub unpacked : ℕ → ℕ → ℕ → List ℕ
-unpacked w s σ = tabulate 5 (λ j. pick (ltb j s) (share w j σ) 0)
+unpacked w s σ = tabulate greatestShares (λ j. pick (ltb j s) (share w j σ) 0)
 
 -- a run takes v as share j: a used share is below 2^w, and a share after s is 0
 unfoldable pub shareFits : ℕ → ℕ → ℕ → ℕ → Bool
 shareFits w s j v = pick (ltb j s) (ltb v (2 ^ w)) (eqb v 0)
 
 unfoldable pub sharesFit : ℕ → ℕ → List ℕ → Bool
-sharesFit w s l = all 5 (λ j. shareFits w s j (getD l j 0))
+sharesFit w s l = all greatestShares (λ j. shareFits w s j (getD l j 0))
 
 -- a refusal answers its number and five zeros
 abbrev pub refusal : ℕ → Ran

@@ -3,6 +3,7 @@ use design::Layout;
 ghost use mathlib.Core.Path.{_≡_};
 ghost use Prim.Native.Nat.{_+_, _-_, _*_, _^_, _≤_, _<_};
 ghost use lib.ListN.{take, drop};
+ghost use Rattle.design.specs.Limits.{greatestWidth, greatestShareBits};
 ghost use Rattle.design.specs.Design.{stageOf};
 ghost use Rattle.design.specs.Reading.{meaning};
 ghost use Rattle.design.specs.Layout.{Describes};
@@ -12,7 +13,7 @@ ghost use Rattle.threshold.specs.Stages.{output, component};
 
 // The bit `v` at place `i`.
 fn placed_bit(v: u32, i: usize) -> u32
-    requires { ⌜ (v < 2) × (i < 20) ⌝ }
+    requires { ⌜ (v < 2) × (i < greatestShareBits) ⌝ }
     ensures { λ r. ⌜ r ≡ v * 2 ^ i ⌝ }
 {
     v << (i as u32)
@@ -20,7 +21,7 @@ fn placed_bit(v: u32, i: usize) -> u32
 
 // The output at the sharing `x` of the lists of the first `n` records.
 pub fn output_of(records: &[u8], n: usize, x: u32) -> u32
-    requires { ⌜ Holds n (now records) × (n ≤ 20) ⌝ }
+    requires { ⌜ Holds n (now records) × (n ≤ greatestShareBits) ⌝ }
     ensures { λ r. ⌜ (r ≡ output (listsOf n (now (records .entry))) x) × (r < 2 ^ n) ⌝ }
 {
     let mut y: u32 = 0;
@@ -72,7 +73,7 @@ pub fn component_at(file: &[u8], layout: Layout, t: usize, j: usize, x: u32) -> 
 
 // 2 to the power of `m`, less 1.
 fn ones(m: usize) -> u32
-    requires { ⌜ m ≤ 20 ⌝ }
+    requires { ⌜ m ≤ greatestWidth ⌝ }
     ensures { λ r. ⌜ r ≡ 2 ^ m - 1 ⌝ }
 {
     (1 << (m as u32)) - 1
@@ -80,7 +81,7 @@ fn ones(m: usize) -> u32
 
 // The value that the sharing `x` of `s` shares shares.
 pub fn sum_of(x: u32, m: usize, s: usize) -> u32
-    requires { ⌜ m ≤ 20 ⌝ }
+    requires { ⌜ m ≤ greatestWidth ⌝ }
     ensures { λ r. ⌜ (r ≡ sum m s x) × (r < 2 ^ m) ⌝ }
 {
     let mask = ones(m);

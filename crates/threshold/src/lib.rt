@@ -9,7 +9,7 @@ pub use engine::sum_of;
 pub use runs::run;
 pub use runs::run_stage;
 
-// What a run answers: the reason, 0 on success, and five shares.
+// What a run answers: the reason, 0 on success, and five shares, the greatest number of them.
 #[repr(C)]
 pub struct Ran {
     pub reason: usize,

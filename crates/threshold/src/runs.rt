@@ -1,10 +1,12 @@
-// Running stages and chains on five shares.
+// Running stages and chains on five shares, the greatest number of them.
 use super::Ran;
 use super::engine::component_at;
+use design::Head;
 use design::Layout;
 ghost use mathlib.Core.Path.{_≡_};
 ghost use mathlib.Core.Bool.{true};
 ghost use Prim.Native.Nat.{_*_, _^_, _≤_, _<_};
+ghost use Rattle.design.specs.Limits.{greatestWidth, greatestShares, greatestShareBits};
 ghost use Rattle.design.specs.Design.{stageOf};
 ghost use Rattle.design.specs.Reading.{meaning};
 ghost use Rattle.design.specs.Layout.{Describes};
@@ -13,7 +15,7 @@ ghost use Rattle.threshold.specs.Running.{packed, unpacked, shareFits, s
 
 // Whether share `j` is one that a run takes: a used one is below 2^m, one after `s` is 0.
 fn share_fits(share: u8, j: usize, m: usize, s: usize) -> bool
-    requires { ⌜ m ≤ 6 ⌝ }
+    requires { ⌜ m ≤ greatestWidth ⌝ }
     ensures { λ r. ⌜ r ≡ shareFits m s j share ⌝ }
 {
     if j < s {
@@ -23,11 +25,11 @@ fn share_fits(share: u8, j: usize, m: usize, s: usize) -> bool
 }
 
 fn shares_fit(shares: [u8; 5], m: usize, s: usize) -> bool
-    requires { ⌜ m ≤ 6 ⌝ }
+    requires { ⌜ m ≤ greatestWidth ⌝ }
     ensures { λ r. ⌜ r ≡ sharesFit m s shares ⌝ }
 {
     let mut j = 0;
-    while j < 5 {
+    while j < Head::GREATEST_SHARES {
         if !share_fits(shares[j], j, m, s) {
             return false;
         }
@@ -38,7 +40,7 @@ fn shares_fit(shares: [u8; 5], m: usize, s: usize) -> bool
 
 // A share at its place in a sharing.
 fn placed(share: u8, e: usize) -> u32
-    requires { ⌜ e ≤ 20 ⌝ }
+    requires { ⌜ e ≤ greatestShareBits ⌝ }
     ensures { λ r. ⌜ r ≡ share * 2 ^ e ⌝ }
 {
     (share as u32) << (e as u32)
@@ -46,7 +48,7 @@ fn placed(share: u8, e: usize) -> u32
 
 // Five shares as one number.
 fn pack(shares: [u8; 5], m: usize, s: usize) -> u32
-    requires { ⌜ (m * s ≤ 20) × (s ≤ 5) × (sharesFit m s shares ≡ true) ⌝ }
+    requires { ⌜ (m * s ≤ greatestShareBits) × (s ≤ greatestShares) × (sharesFit m s shares ≡ true) ⌝ }
     ensures { λ r. ⌜ (r ≡ packed m s shares) × (r < 2 ^ (m * s)) ⌝ }
 {
     let mut x: u32 = 0;

@@ -17,6 +17,9 @@ returns-2 : tie.Need-returns-2
 unfolding sizeDue
 returns-2 c = simp (ne-eqb _ _ (c .before .before .if1 .left), eq-eqb _ _ (c .before .if2 .taken)) (c .power .ensures)
 
+mul-result : tie.Need-mul-result
+mul-result c = omega arith
+
 returns-3 : tie.Need-returns-3
 unfolding sizeDue
 returns-3 c = simp (ne-eqb _ _ (c .before .before .if1 .left), ne-eqb _ _ (c .before .if2 .left), eq-eqb _ _ (c .if3 .taken))
@@ -26,4 +29,4 @@ unfolding sizeDue
 returns-4 c = simp (ne-eqb _ _ (c .before .before .if1 .left), ne-eqb _ _ (c .before .if2 .left), ne-eqb _ _ (c .if3 .left))
 
 pub size-due-spec : {M : Type 1} → statement M
-size-due-spec = tie.close (tie.spec returns power-requires returns-2 returns-3 returns-4)
+size-due-spec = tie.close (tie.spec returns power-requires returns-2 mul-result returns-3 returns-4)

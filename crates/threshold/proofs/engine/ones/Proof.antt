@@ -6,6 +6,7 @@ use native.Mathlib.Nat.{one-mul}
 use lib.Dec.{lit<}
 use lib.Pow.{shl-exact, pow-pos}
 use borrow.Author.Needs.{needs}
+use Rattle.design.specs.Limits.{greatestWidth}
 use Rattle.threshold.proofs.engine.ones.Statement.{statement}
 use Rattle.threshold.proofs.engine.ones.Tie as tie
 
@@ -15,7 +16,7 @@ cast-result c = search needs
 shl-result : tie.Need-shl-result
 shl-result c = search needs
 
-exact : (m : ℕ) → m ≤ 20 → 1 * 2 ^ m % 2 ^ 32 ≡ 2 ^ m
+exact : (m : ℕ) → m ≤ greatestWidth → 1 * 2 ^ m % 2 ^ 32 ≡ 2 ^ m
 exact m h = shl-exact 1 m 32 (lit< tt) (omega arith) ∙ one-mul _
 
 sub-result : tie.Need-sub-result

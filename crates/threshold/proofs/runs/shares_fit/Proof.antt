@@ -7,15 +7,16 @@ use lib.ListN.{getD}
 use borrow.Author.Tests.{not-true, not-false}
 use Rattle.anf.specs.Tests.{all}
 use Rattle.anf.proofs.Testing.{all-more, all-fails}
+use Rattle.design.specs.Limits.{greatestShares}
 use Rattle.threshold.specs.Running.{shareFits, sharesFit}
 use Rattle.threshold.proofs.runs.shares_fit.Statement.{statement}
 use Rattle.threshold.proofs.runs.shares_fit.Tie as tie
 
 abbrev Inv-loop : tie.InvT-loop
-Inv-loop m s shares j₀ j = (j ≤ 5) × (all j (λ i. shareFits m s i (getD shares i 0)) ≡ true)
+Inv-loop m s shares j₀ j = (j ≤ greatestShares) × (all j (λ i. shareFits m s i (getD shares i 0)) ≡ true)
 
 abbrev μ-loop : tie.MeasureT-loop
-μ-loop m s shares j₀ j = 5 - j
+μ-loop m s shares j₀ j = greatestShares - j
 
 loop-holds : tie.Need-loop-holds Inv-loop μ-loop
 unfolding all
@@ -31,7 +32,7 @@ returns : tie.Need-returns Inv-loop μ-loop
 unfolding sharesFit
 returns c =
     let o = c .before .before .before .loop in
-    sym (all-fails 5 _ (o .j) (omega arith) (sym (c .before .share-fits .ensures) ∙ not-true _ (c .if1 .taken)))
+    sym (all-fails greatestShares _ (o .j) (omega arith) (sym (c .before .share-fits .ensures) ∙ not-true _ (c .if1 .taken)))
 
 add-j : tie.Need-add-j Inv-loop μ-loop
 add-j c = omega arith
@@ -48,7 +49,7 @@ returns-2 : tie.Need-returns-2 Inv-loop μ-loop
 unfolding sharesFit
 returns-2 c =
     let o = c .before .loop in
-    let z : o .j ≡ 5 = omega arith in
+    let z : o .j ≡ greatestShares = omega arith in
     sym (rw z at (o .inv .1))
 
 pub shares-fit-spec : {M : Type 1} → statement M
