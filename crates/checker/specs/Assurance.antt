@@ -39,12 +39,12 @@ pub record Assured (f : List ℕ) (d : Design) : Type 0 where
       → (running f l ≡ record { reason = 0; shares = outputShares d l }) × (fiveSum (outputShares d l) ≡ entry (d .box) x)
 
 -- how many sharings of x pass a test of what stage i is handed
-abbrev pub passing : Design → ℕ → ℕ → (ℕ → Bool) → ℕ
-passing d x i p = count (2 ^ (d .m * d .s)) (λ σ. eqb (sum (d .m) (d .s) σ) x && p (handed (d .stages) i σ))
+abbrev pub timesPassed : Design → ℕ → ℕ → (ℕ → Bool) → ℕ
+timesPassed d x i p = count (2 ^ (d .m * d .s)) (λ σ. eqb (sum (d .m) (d .s) σ) x && p (handed (d .stages) i σ))
 
 -- What follows of it: no test of a setting tells one secret from another, and nor does the value that a component gives.
 pub record Blind (d : Design) : Type 0 where
   pub settings : (x y i j : ℕ) → x < 2 ^ d .m → y < 2 ^ d .m → i < d .k → j < d .s → (p : ℕ → Bool)
-      → passing d x i (λ σ. p (setting (d .m) j σ)) ≡ passing d y i (λ σ. p (setting (d .m) j σ))
+      → timesPassed d x i (λ σ. p (setting (d .m) j σ)) ≡ timesPassed d y i (λ σ. p (setting (d .m) j σ))
   pub values : (x y i j z : ℕ) → x < 2 ^ d .m → y < 2 ^ d .m → i < d .k → j < d .s
-      → passing d x i (λ σ. eqb (component (d .m) (stageOf d i .lists) j σ) z) ≡ passing d y i (λ σ. eqb (component (d .m) (stageOf d i .lists) j σ) z)
+      → timesPassed d x i (λ σ. eqb (component (d .m) (stageOf d i .lists) j σ) z) ≡ timesPassed d y i (λ σ. eqb (component (d .m) (stageOf d i .lists) j σ) z)
