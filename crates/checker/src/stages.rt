@@ -41,11 +41,12 @@ pub fn correct_stage(file: &[u8], layout: Layout, t: usize) -> bool
     let s = layout.head.s;
     let tries = sharings(layout);
     let table = design::table(file, layout, t);
-    let records = design::lists(file, layout, t);
+    let starts = layout.starts;
+    let first = design::number(layout.head, t, 1);
     let bits = layout.head.m * layout.head.s;
     let mut x: u32 = 0;
     while x < tries {
-        let y = threshold::output_of(records, bits, x);
+        let y = threshold::output_of(file, &starts, first, bits, x);
         if !agrees(table, m, s, x, y) {
             return false;
         }
@@ -105,11 +106,12 @@ fn mark_all(file: &[u8], layout: Layout, t: usize, workspace: &mut [u8]) -> bool
     ensures { λ r. ⌜ (r ≡ repeatsBy (sharingsOf layout) (output (stageOf (meaning (now (file .entry))) t .lists))) × (drop (marksOf layout) (now (workspace .exit)) ≡ drop (marksOf layout) (now (workspace .entry))) ⌝ }
 {
     let n = sharings(layout);
-    let records = design::lists(file, layout, t);
+    let starts = layout.starts;
+    let first = design::number(layout.head, t, 1);
     let count = layout.head.m * layout.head.s;
     let mut x: u32 = 0;
     while x < n {
-        let y = threshold::output_of(records, count, x);
+        let y = threshold::output_of(file, &starts, first, count, x);
         if mark_one(workspace, y as usize) {
             return true;
         }

@@ -1,53 +1,33 @@
--- The lists of a stage as they stand: what a step from record to record reads, and that the records of a stage's lists stand one behind the other,
--- from where the layout has the first.
-use Prim.Native.Nat.{ℕ, zero, suc, _+_, _-_, _*_, _≤_, _<_}
+-- The lists of a stage as they stand in a file that reads, by where its layout has the bodies start.
+use Prim.Native.Nat.{ℕ, _+_, _-_, _*_, _≤_, _<_}
 use mathlib.Core.Path.{_≡_, refl, sym, ap, ap₂, _∙_, subst}
-use mathlib.Core.List.{List, [], _∷_}
-use native.Mathlib.Nat.{add-zero}
-use native.Mathlib.Numerals.{add-one}
+use mathlib.Core.List.{List, []}
 use native.Mathlib.Omega.{arith}
-use lib.ListN.{length, getD, take, drop, length-drop, drop-of-length-le}
-use lib.Seq.{take-all, drop-cons, drop-drop, getD-drop}
+use lib.Arith.{digits-lt}
+use lib.ListN.{length, getD, take, drop, length-take, length-drop}
+use lib.Seq.{ext-getD, getD-take, getD-drop, take-all}
+use Rattle.anf.proofs.Testing.{tabulate-length, tabulate-at}
 use Rattle.design.specs.Bytes.{Bytes, u16At, terms, termBytes}
 use Rattle.design.specs.Design.{stageOf, listOf}
 use Rattle.design.specs.Reading.{headOf, lastOf, numberOf, place, meaning}
 use Rattle.design.specs.Layout.{Describes}
-use Rattle.design.specs.StageLists.{bodyAt, behindAt, Holds, listsOf}
+use Rattle.design.specs.StageLists.{bodyAt, Inside, AllInside, listsOf}
 use Rattle.design.specs.declared.Layout.{Layout}
+use Rattle.design.proofs.Limits.{records}
 use Rattle.design.proofs.TermBytes.{terms-of-bytes}
 use Rattle.design.proofs.Walking.{place-next}
 use Rattle.design.proofs.Answered.{described}
 use Rattle.design.proofs.Found.{number-low}
 use Rattle.design.proofs.Written.{list-part}
 
-u16-drop : (b : List ℕ) (at : ℕ) → u16At (drop at b) 0 ≡ u16At b at
-unfolding u16At
-u16-drop b at =
-    ap₂ (λ (x y : ℕ). x + 256 * y) (getD-drop at b 0 0 ∙ ap (λ (k : ℕ). getD b k 0) (add-zero at)) (getD-drop at b 1 0)
-
--- a record at a place: its body, and what stands behind it
-module _ (b : List ℕ) (at : ℕ) where
-  record-body : bodyAt (drop at b) 0 ≡ bodyAt b at
-  record-body = ap₂ (λ (n : ℕ) (l : List ℕ). take n l) (u16-drop b at) (drop-drop 4 at b)
-
-  record-behind : drop (behindAt (drop at b) 0) (drop at b) ≡ drop (behindAt b at) b
-  record-behind =
-      let e : at + behindAt (drop at b) 0 ≡ behindAt b at = (let c = u16-drop b at in omega arith) in
-      drop-drop (behindAt (drop at b) 0) at b ∙ ap (λ (k : ℕ). drop k b) e
-
--- the first of the records that stand from a place on
-module _ (b : List ℕ) (at n : ℕ) where
-  pub record-fits : Holds (suc n) (drop at b) → behindAt b at ≤ length b
-  record-fits h = let c = u16-drop b at in let l = length-drop at b in let q = h .0 in omega arith
-
-  pub record-rest : Holds (suc n) (drop at b) → Holds n (drop (behindAt b at) b)
-  record-rest h = subst (Holds n) (record-behind b at) (h .1)
-
-  pub listsOf-next : listsOf (suc n) (drop at b) ≡ terms (bodyAt b at) ∷ listsOf n (drop (behindAt b at) b)
+module _ (f starts : List ℕ) (first n : ℕ) where
+  pub listsOf-length : length (listsOf f starts first n) ≡ n
   unfolding listsOf
-  listsOf-next = ap₂ _∷_ (ap terms (record-body b at)) (ap (listsOf n) (record-behind b at))
+  listsOf-length = tabulate-length n _
 
--- ---- where the lists of a stage stand
+  pub listsOf-at : (i : ℕ) → i < n → getD (listsOf f starts first n) i [] ≡ terms (bodyAt f (getD starts (first + i) 0) (getD starts (first + i + 1) 0))
+  unfolding listsOf
+  listsOf-at i h = tabulate-at n _ i [] h
 
 pub lists-length : (f : List ℕ) (y : Layout) → Describes f y → (t : ℕ) → t < y .head .k → length (stageOf (meaning f) t .lists) ≡ y .head .m * y .head .s
 lists-length f y d t u =
@@ -55,56 +35,56 @@ lists-length f y d t u =
     r .formed .stage t (subst (λ (k : ℕ). t < k) (r .k) u) .count ∙ sym (ap₂ _*_ (r .m) (r .s))
 
 module _ (f : List ℕ) (b : Bytes f) (y : Layout) (d : Describes f y) (t : ℕ) (u : t < y .head .k) where
-  number-next : (l : ℕ) → numberOf (y .head) t (l + 1) ≡ numberOf (y .head) t l + 1
-  unfolding numberOf
-  number-next l = omega arith
-
-  stand : (left i : ℕ) → i + left ≡ y .head .m * y .head .s
-      → Holds left (drop (place f (numberOf (y .head) t (i + 1))) f)
-      × (listsOf left (drop (place f (numberOf (y .head) t (i + 1))) f) ≡ drop i (stageOf (meaning f) t .lists))
-  unfolding listsOf
-  stand zero i e =
-      let g : length (stageOf (meaning f) t .lists) ≤ i = (let n = lists-length f y d t u in omega arith) in
-      (tt, sym (drop-of-length-le (stageOf (meaning f) t .lists) g))
-  stand (suc left) i e =
-      let ls = stageOf (meaning f) t .lists in
-      let N = numberOf (y .head) t (i + 1) in
-      let p = place f N in
-      let h : i < y .head .m * y .head .s = omega arith in
-      let low : N < lastOf (headOf f) + 1 = (let q = number-low (y .head) t (i + 1) u (omega arith) in let z = ap lastOf (d .head) in omega arith) in
-      let s : getD (y .starts) N 0 ≡ p + 4 = d .starts N low in
-      let w = list-part f b y d t i N (p + 4) u h refl (sym s) in
-      let z : p + 4 - 4 ≡ p = omega arith in
-      let fits : p + 4 + u16At f p ≤ length f = rw z at (w .1 .fits) in
-      let is : take (u16At f p) (drop (p + 4) f) ≡ termBytes (listOf (meaning f) t i) = rw z at (w .1 .is) in
-      let r = stand left (i + 1) (omega arith) in
-      let q : drop (behindAt (drop p f) 0) (drop p f) ≡ drop (place f (numberOf (y .head) t (i + 1 + 1))) f =
-      record-behind f p ∙ ap (λ (k : ℕ). drop k f) (sym (place-next f N) ∙ ap (place f) (sym (number-next (i + 1)))) in (
-        (let c = u16-drop f p in let n = length-drop p f in omega arith, subst (Holds left) (sym q) (r .0)),
-        ap₂ _∷_ (ap terms (record-body f p ∙ is) ∙ terms-of-bytes (listOf (meaning f) t i)) (ap (listsOf left) q ∙ r .1)
-            ∙ sym (drop-cons ls i [] (let n = lists-length f y d t u in omega arith) ∙ ap (λ (k : ℕ). getD ls i [] ∷ drop k ls) (sym (add-one i))),
+  -- list l: it lies in the file, and its terms are those that the file means
+  one : (l N : ℕ) → l < y .head .m * y .head .s → N ≡ numberOf (y .head) t (l + 1)
+      → Inside f (getD (y .starts) N 0) (getD (y .starts) (N + 1) 0)
+      × (terms (bodyAt f (getD (y .starts) N 0) (getD (y .starts) (N + 1) 0)) ≡ listOf (meaning f) t l)
+  one l N h e =
+      let low : N + 1 < lastOf (headOf f) + 1 = (let q = number-low (y .head) t (l + 1) u (omega arith) in let z = ap lastOf (d .head) in omega arith) in
+      let s = d .starts N (omega arith) in
+      let s′ = d .starts (N + 1) low in
+      let p = place-next f N in
+      let w = list-part f b y d t l N (getD (y .starts) N 0) u h e refl in
+      let o : getD (y .starts) N 0 - 4 ≡ place f N = omega arith in
+      let fits : getD (y .starts) N 0 + u16At f (place f N) ≤ length f = rw o at (w .1 .fits) in
+      let is : take (u16At f (place f N)) (drop (getD (y .starts) N 0) f) ≡ termBytes (listOf (meaning f) t l) = rw o at (w .1 .is) in
+      let n : getD (y .starts) (N + 1) 0 - 4 - getD (y .starts) N 0 ≡ u16At f (place f N) = omega arith in (
+        (omega arith, omega arith),
+        ap terms (ap (λ (k : ℕ). take k (drop (getD (y .starts) N 0) f)) n ∙ is) ∙ terms-of-bytes (listOf (meaning f) t l),
       )
 
-  -- where the first list's record starts
-  pub first-start : (i from : ℕ) → i ≡ numberOf (y .head) t 1 → from ≡ getD (y .starts) i 0
-      → (4 ≤ from) × (from ≤ length f) × (from - 4 ≡ place f (numberOf (y .head) t 1))
-  first-start i from n e =
-      let h = described d .bounds .bits-low in
-      let w = list-part f b y d t 0 i from u (omega arith) n e in
-      let low : i < lastOf (headOf f) + 1 = (let q = number-low (y .head) t 1 u (omega arith) in let z = ap lastOf (d .head) in omega arith) in
-      let s = d .starts i low in
-      let q = w .1 .fits in
-      (w .0, omega arith, (let z : from - 4 ≡ place f i = omega arith in z ∙ ap (place f) n))
+  number-from : (from i : ℕ) → numberOf (y .head) t (from + 1) + i ≡ numberOf (y .head) t (from + i + 1)
+  unfolding numberOf
+  number-from from i = omega arith
 
-  -- from the first list's record on
-  pub lists-stand : (from : ℕ) → from ≡ place f (numberOf (y .head) t 1)
-      → Holds (y .head .m * y .head .s) (drop from f) × (listsOf (y .head .m * y .head .s) (drop from f) ≡ stageOf (meaning f) t .lists)
-  lists-stand from e = rw e (stand (y .head .m * y .head .s) 0 (omega arith))
+  -- n lists from the one numbered `from` on
+  module _ (from n first : ℕ) (h : from + n ≤ y .head .m * y .head .s) (e : first ≡ numberOf (y .head) t (from + 1)) where
+    pub lists-inside : AllInside f (y .starts) first n
+    lists-inside i k = one (from + i) (first + i) (omega arith) (ap (λ (q : ℕ). q + i) e ∙ number-from from i) .0
 
-  -- as a part of the file, to its end
-  pub lists-part : (from : ℕ) → from ≡ place f (numberOf (y .head) t 1)
-      → Holds (y .head .m * y .head .s) (take (length f - from) (drop from f))
-      × (listsOf (y .head .m * y .head .s) (take (length f - from) (drop from f)) ≡ stageOf (meaning f) t .lists)
-  lists-part from e =
-      let q : length (drop from f) ≤ length f - from = (let n = length-drop from f in omega arith) in
-      rw (take-all (length f - from) (drop from f) q) (lists-stand from e)
+    -- their starts and the next are among those that a layout has room for
+    pub lists-known : first + n < 88
+    unfolding numberOf
+    lists-known =
+        let o = described d .bounds in
+        let r = records (o .k-high) (o .bits) in
+        let g = digits-lt {r = from + n} {c = 1 + y .head .m * y .head .s} u (omega arith) in
+        omega arith
+
+    pub lists-are : listsOf f (y .starts) first n ≡ take n (drop from (stageOf (meaning f) t .lists))
+    lists-are =
+        let ls = stageOf (meaning f) t .lists in
+        let g : length (take n (drop from ls)) ≡ n = length-take n (drop from ls) ∙ (let k = length-drop from ls in let w = lists-length f y d t u in omega arith) in
+        let a = listsOf-length f (y .starts) first n in
+        ext-getD [] (listsOf f (y .starts) first n) (take n (drop from ls)) (a ∙ sym g)
+        (λ i k.
+        let l : i < n = omega arith in
+        listsOf-at f (y .starts) first n i l
+        ∙ one (from + i) (first + i) (omega arith) (ap (λ (q : ℕ). q + i) e ∙ number-from from i) .1
+        ∙ sym (getD-take n (drop from ls) i [] l ∙ getD-drop from ls i []))
+
+  -- all of them
+  pub lists-all : (first : ℕ) → first ≡ numberOf (y .head) t 1 → listsOf f (y .starts) first (y .head .m * y .head .s) ≡ stageOf (meaning f) t .lists
+  lists-all first e =
+      let g = lists-length f y d t u in
+      lists-are 0 (y .head .m * y .head .s) first (omega arith) e ∙ take-all (y .head .m * y .head .s) (stageOf (meaning f) t .lists) (omega arith)

@@ -1,14 +1,14 @@
 -- Laws of lists of terms and their bytes.
-use mathlib.Core.Path.{_≡_, refl, sym, ap, _∙_}
+use mathlib.Core.Path.{_≡_, refl, sym, ap, ap₂, _∙_}
 use mathlib.Core.List.{List, [], _∷_}
 use Prim.Native.Nat.{ℕ, zero, suc, _+_, _*_, _/_, _%_, _^_, _<_, _≤_}
 use native.Mathlib.Numerals.{towards-suc, unary-clauses}
 use native.Mathlib.Omega.{arith}
 use lib.ListN.{length, getD, drop, length-drop}
 use lib.Seq.{drop-cons}
-use lib.Bits.{bitAnd, bitOr, bitXor, xor-zero-r, or-add-and}
+use lib.Bits.{bitAnd, bitOr, bitXor, xor-self, xor-zero-r, or-add-and}
 use borrow.Author.Tests.{eq-eqb, ne-eqb}
-use Rattle.anf.proofs.Xor.{xor-assoc, bit-cases}
+use Rattle.anf.proofs.Xor.{xor-cancel, xor-ac, bit-cases}
 use Rattle.anf.specs.Tests.{pick}
 use Rattle.anf.specs.NormalForm.{subset}
 use Rattle.anf.specs.Terms.{valueAt}
@@ -74,37 +74,68 @@ unfolding termBytes
 length-termBytes [] = refl
 length-termBytes (t ∷ ts) = let e = length-termBytes ts in omega arith
 
--- ---- a turn of the loop that sums: s so far, the rest from `at` on
+-- ---- counting terms
 
-abbrev pub Left : List ℕ → ℕ → ℕ → ℕ → Type 0
-Left l x at s = bitXor s (valueAt (terms (drop at l)) x) ≡ valueAt (terms l) x
+-- a count with one term more, which may wrap: its last bit
+pub count-one : (n t x : ℕ) → bitOr t x ≡ x → (n + 1) % 2 ^ 32 % 2 ≡ bitXor (n % 2) (pick (subset t x) 1 0)
+unfolding subset
+count-one n t x o =
+    let q : bitAnd t x ≡ t = omega (arith, or-add-and t x) in
+    rw (eq-eqb _ _ q) (bit-cases (λ b. (n + 1) % 2 ^ 32 % 2 ≡ (b + 1) % 2 → (n + 1) % 2 ^ 32 % 2 ≡ bitXor b 1) (λ e. e) (λ e. e) n (omega arith))
 
-pub left-step : (l : List ℕ) (x at s s′ v : ℕ) → at + 4 ≤ length l → Left l x at s → s′ ≡ bitXor s v → pick (subset (u32At l at) x) 1 0 ≡ v → Left l x (at + 4) s′
+pub count-none : (n t x : ℕ) → (bitOr t x ≡ x → ⊥) → n % 2 ≡ bitXor (n % 2) (pick (subset t x) 1 0)
+unfolding subset
+count-none n t x o =
+    let q : bitAnd t x ≡ t → ⊥ = λ z. o (omega (arith, or-add-and t x)) in
+    rw (ne-eqb _ _ q) (sym (xor-zero-r (n % 2)))
+
+-- the value of the terms from a place on
+abbrev pub rest : List ℕ → ℕ → ℕ → ℕ
+rest l x at = valueAt (terms (drop at l)) x
+
+rest-step : (l : List ℕ) (x at : ℕ) → at + 4 ≤ length l → rest l x at ≡ bitXor (pick (subset (u32At l at) x) 1 0) (rest l x (at + 4))
 unfolding valueAt
-left-step l x at s s′ v h i e p =
-    ap (λ (n : ℕ). bitXor n (valueAt (terms (drop (at + 4) l)) x)) e
-    ∙ xor-assoc s v (valueAt (terms (drop (at + 4) l)) x)
-    ∙ ap (λ (n : ℕ). bitXor s (bitXor n (valueAt (terms (drop (at + 4) l)) x))) (sym p)
-    ∙ ap (λ (ts : List ℕ). bitXor s (valueAt ts x)) (sym (terms-cons l at h))
-    ∙ i
+rest-step l x at h = rw (terms-cons l at h) refl
 
--- one term more is 1: of a count, only its last bit matters, and it may wrap
-parity : (n n′ : ℕ) → n′ ≡ (n + 1) % 2 ^ 32 → n′ % 2 ≡ bitXor (n % 2) 1
-parity n n′ e = bit-cases (λ b. n′ % 2 ≡ (b + 1) % 2 → n′ % 2 ≡ bitXor b 1) (λ q. q) (λ q. q) n (omega arith)
-
-module _ (l : List ℕ) (x at n n′ : ℕ) (h : at + 4 ≤ length l) (i : Left l x at (n % 2)) where
-  pub left-counted : n′ ≡ (n + 1) % 2 ^ 32 → bitOr (u32At l at) x ≡ x → Left l x (at + 4) (n′ % 2)
-  unfolding subset
-  left-counted e o =
-      let q : bitAnd (u32At l at) x ≡ u32At l at = omega (arith, or-add-and (u32At l at) x) in
-      left-step l x at (n % 2) (n′ % 2) 1 h i (parity n n′ e) (simp (eq-eqb _ _ q))
-
-  pub left-passed : n′ ≡ n → (bitOr (u32At l at) x ≡ x → ⊥) → Left l x (at + 4) (n′ % 2)
-  unfolding subset
-  left-passed e o =
-      let q : bitAnd (u32At l at) x ≡ u32At l at → ⊥ = λ z. o (omega (arith, or-add-and (u32At l at) x)) in
-      left-step l x at (n % 2) (n′ % 2) 0 h i (ap (λ (k : ℕ). k % 2) e ∙ sym (xor-zero-r (n % 2))) (simp (ne-eqb _ _ q))
-
-pub left-end : (l : List ℕ) (x at s : ℕ) → length l < at + 4 → Left l x at s → s ≡ valueAt (terms l) x
+rest-end : (l : List ℕ) (x at : ℕ) → length l < at + 4 → rest l x at ≡ 0
 unfolding valueAt
-left-end l x at s h i = sym (xor-zero-r s) ∙ ap (λ (ts : List ℕ). bitXor s (valueAt ts x)) (sym (terms-end l at h)) ∙ i
+rest-end l x at h = rw (terms-end l at h) refl
+
+-- s so far, and what is left: the terms from `at` on up to half, and those from half and `at` on
+abbrev pub Left : List ℕ → ℕ → ℕ → ℕ → ℕ → Type 0
+Left l x half at s = bitXor s (bitXor (rest l x at) (bitXor (rest l x half) (rest l x (half + at)))) ≡ valueAt (terms l) x
+
+pub left-start : (l : List ℕ) (x half : ℕ) → Left l x half 0 0
+left-start l x half =
+    let o : half + 0 ≡ half = omega arith in
+    rw (o, xor-self (rest l x half)) (xor-zero-r (rest l x 0))
+
+regroup : (s p q a h b : ℕ) → bitXor (bitXor (bitXor s p) q) (bitXor a (bitXor h b)) ≡ bitXor s (bitXor (bitXor p a) (bitXor h (bitXor q b)))
+regroup s p q a h b = simp xor-ac
+
+-- a term of each half
+pub left-step : (l : List ℕ) (x half at s s₁ s₂ : ℕ) → at + 4 ≤ length l → half + at + 4 ≤ length l → Left l x half at s
+    → s₁ ≡ bitXor s (pick (subset (u32At l at) x) 1 0) → s₂ ≡ bitXor s₁ (pick (subset (u32At l (half + at)) x) 1 0) → Left l x half (at + 4) s₂
+left-step l x half at s s₁ s₂ h k i e f =
+    let p : ℕ = pick (subset (u32At l at) x) 1 0 in
+    let q : ℕ = pick (subset (u32At l (half + at)) x) 1 0 in
+    let o : half + (at + 4) ≡ half + at + 4 = omega arith in
+    rw (f, e, o) (
+    regroup s p q (rest l x (at + 4)) (rest l x half) (rest l x (half + at + 4))
+    ∙ ap₂ (λ (u v : ℕ). bitXor s (bitXor u (bitXor (rest l x half) v))) (sym (rest-step l x at h)) (sym (rest-step l x (half + at) k))
+    ∙ i)
+
+-- behind both halves no term is left, or one
+module _ (l : List ℕ) (x half s : ℕ) (i : Left l x half half s) where
+  behind : bitXor s (rest l x (2 * half)) ≡ valueAt (terms l) x
+  behind =
+      let o : 2 * half ≡ half + half = omega arith in
+      rw o (sym (ap (bitXor s) (xor-cancel (rest l x half) (rest l x (half + half)))) ∙ i)
+
+  pub left-none : length l < 2 * half + 4 → s ≡ valueAt (terms l) x
+  left-none h = sym (xor-zero-r s) ∙ ap (bitXor s) (sym (rest-end l x (2 * half) h)) ∙ behind
+
+  pub left-one : (s′ : ℕ) → 2 * half + 4 ≤ length l → length l < 2 * half + 8 → s′ ≡ bitXor s (pick (subset (u32At l (2 * half)) x) 1 0) → s′ ≡ valueAt (terms l) x
+  left-one s′ h k e =
+      let p : ℕ = pick (subset (u32At l (2 * half)) x) 1 0 in
+      e ∙ ap (bitXor s) (sym (xor-zero-r p) ∙ ap (bitXor p) (sym (rest-end l x (2 * half + 4) (omega arith))) ∙ sym (rest-step l x (2 * half) h)) ∙ behind

@@ -1,23 +1,22 @@
--- The lists of a stage as their records stand in a file, one behind the other.
-use Prim.Native.Nat.{ℕ, zero, suc, _+_, _≤_}
-use mathlib.Core.List.{List, [], _∷_}
-use lib.ListN.{length, take, drop}
-use Rattle.design.specs.Bytes.{u16At, terms}
+-- The lists of a stage as they stand in a file, by where the bodies of its records start.
+use Prim.Native.Nat.{ℕ, _+_, _-_, _≤_, _<_}
+use mathlib.Core.List.{List}
+use lib.ListN.{length, getD, take, drop}
+use Rattle.anf.specs.Tests.{tabulate}
+use Rattle.design.specs.Bytes.{terms}
 
--- the body of the record at a place
-abbrev pub bodyAt : List ℕ → ℕ → List ℕ
-bodyAt b at = take (u16At b at) (drop (at + 4) b)
+-- the body that starts at a place, where the next one is known to start: four bytes stand between them, the next head
+abbrev pub bodyAt : List ℕ → ℕ → ℕ → List ℕ
+bodyAt f start next = take (next - 4 - start) (drop start f)
 
--- the place behind the record at a place
-abbrev pub behindAt : List ℕ → ℕ → ℕ
-behindAt b at = at + 4 + u16At b at
+-- it lies inside the file
+abbrev pub Inside : List ℕ → ℕ → ℕ → Type 0
+Inside f start next = (start + 4 ≤ next) × (next ≤ length f + 4)
 
--- b starts with n records
-abbrev pub Holds : ℕ → List ℕ → Type 0
-Holds zero b = Unit
-Holds (suc n) b = (behindAt b 0 ≤ length b) × Holds n (drop (behindAt b 0) b)
+-- so do n bodies, from the one that the list of starts has at `first` on
+abbrev pub AllInside : List ℕ → List ℕ → ℕ → ℕ → Type 0
+AllInside f starts first n = (i : ℕ) → i < n → Inside f (getD starts (first + i) 0) (getD starts (first + i + 1) 0)
 
--- the lists of terms of the first n records of b
-unfoldable pub listsOf : ℕ → List ℕ → List (List ℕ)
-listsOf zero b = []
-listsOf (suc n) b = terms (bodyAt b 0) ∷ listsOf n (drop (behindAt b 0) b)
+-- the lists of terms of those bodies
+unfoldable pub listsOf : List ℕ → List ℕ → ℕ → ℕ → List (List ℕ)
+listsOf f starts first n = tabulate n (λ i. terms (bodyAt f (getD starts (first + i) 0) (getD starts (first + i + 1) 0)))

@@ -5,13 +5,12 @@ mod reader; // reader.rt: the tests of each record, and the walk over all
 mod parts; // parts.rt: the tables and lists of a file that reads
 mod writer; // writer.rt: a record's head, a run of bytes, a term
 
-pub use parts::behind;
 pub use parts::body;
 pub use parts::box_entry;
 pub use parts::box_table;
 pub use parts::entry;
 pub use parts::list;
-pub use parts::lists;
+pub use parts::number;
 pub use parts::table;
 pub use reader::read;
 pub use terms::count;

@@ -5,16 +5,16 @@ use super::bytes::pair;
 use super::bytes::power;
 ghost use mathlib.Core.Path.{_≡_};
 ghost use Prim.Native.Nat.{_*_, _^_, _≤_, _<_};
-ghost use lib.ListN.{length, getD};
+ghost use lib.ListN.{getD};
 ghost use Rattle.design.specs.Bytes.{termBytes};
 ghost use Rattle.design.specs.Design.{stageOf, listOf};
 ghost use Rattle.design.specs.Design.{entry as entryOf};
 ghost use Rattle.design.specs.Reading.{lastOf, numberOf, meaning};
 ghost use Rattle.design.specs.Layout.{Limits, Describes};
-ghost use Rattle.design.specs.StageLists.{bodyAt, behindAt, Holds, listsOf};
+ghost use Rattle.design.specs.StageLists.{bodyAt, Inside};
 
 // The number of a record of stage `t`: its table at `l` 0, its lists from 1 on.
-fn number(h: Head, t: usize, l: usize) -> usize
+pub fn number(h: Head, t: usize, l: usize) -> usize
     requires { ⌜ Limits h × (t < h .k) × (l ≤ h .m * h .s) ⌝ }
     ensures { λ r. ⌜ (r ≡ numberOf h t l) × (r < lastOf h) × (r < 88) ⌝ }
 {
@@ -80,30 +80,10 @@ pub fn list(file: &[u8], layout: Layout, t: usize, l: usize) -> &[u8]
     &file[from..from + n]
 }
 
-// The file from the records of the lists of stage `t` on.
-pub fn lists(file: &[u8], layout: Layout, t: usize) -> &[u8]
-    requires { ⌜ Describes (now file) layout × (t < layout .head .k) ⌝ }
-    ensures { λ r. ⌜ Holds (layout .head .m * layout .head .s) (now r) × (listsOf (layout .head .m * layout .head .s) (now r) ≡ stageOf (meaning (now (file .entry))) t .lists) ⌝ }
+// The body that starts at `start`, where the next one starts at `next`.
+pub fn body(file: &[u8], start: usize, next: usize) -> &[u8]
+    requires { ⌜ Inside (now file) start next ⌝ }
+    ensures { λ r. ⌜ now r ≡ bodyAt (now (file .entry)) start next ⌝ }
 {
-    let i = number(layout.head, t, 1);
-    let from = start(layout, i);
-    &file[from - 4..]
-}
-
-// The body of the record at `at`.
-pub fn body(records: &[u8], at: usize) -> &[u8]
-    requires { ⌜ behindAt (now records) at ≤ length (now records) ⌝ }
-    ensures { λ r. ⌜ now r ≡ bodyAt (now (records .entry)) at ⌝ }
-{
-    let from = at + 4;
-    let n = pair(records, at);
-    &records[from..from + n]
-}
-
-// The place behind the record at `at`.
-pub fn behind(records: &[u8], at: usize) -> usize
-    requires { ⌜ behindAt (now records) at ≤ length (now records) ⌝ }
-    ensures { λ r. ⌜ r ≡ behindAt (now (records .entry)) at ⌝ }
-{
-    at + 4 + pair(records, at)
+    &file[start..next - 4]
 }

@@ -1,8 +1,11 @@
 // Lists of terms as they stand in a file, four bytes each.
 use super::bytes::word;
 ghost use mathlib.Core.Path.{_≡_};
-ghost use Prim.Native.Nat.{_<_};
+ghost use Prim.Native.Nat.{_%_, _<_};
 ghost use lib.ListN.{length, getD};
+ghost use lib.Bits.{bitXor};
+ghost use Rattle.anf.specs.Tests.{pick};
+ghost use Rattle.anf.specs.NormalForm.{subset};
 ghost use Rattle.anf.specs.Terms.{before, valueAt};
 ghost use Rattle.design.specs.Bytes.{terms};
 
@@ -28,18 +31,31 @@ pub fn term(list: &[u8], j: usize) -> u32
     word(list, 4 * j)
 }
 
-// The value at `x` of a list: how many of its terms are 1 there, modulo 2.
+// A count of terms, and one more if the term `t` is 1 at `x`. Only its last bit matters, so it may wrap.
+fn counted(n: u32, t: u32, x: u32) -> u32
+    ensures { λ r. ⌜ r % 2 ≡ bitXor (n % 2) (pick (subset t x) 1 0) ⌝ }
+{
+    if t | x == x {
+        return std::num::wrapping_add_u32(n, 1);
+    }
+    n
+}
+
+// The value at `x` of a list: how many of its terms are 1 there, modulo 2. A turn of the loop takes a term of each half, which long lists gain by; a last term
+// may follow.
 pub fn value(list: &[u8], x: u32) -> u32
     ensures { λ r. ⌜ r ≡ valueAt (terms (now (list .entry))) x ⌝ }
 {
+    let half = list.len() / 8 * 4;
     let mut n: u32 = 0;
     let mut at: usize = 0;
-    while at + 4 <= list.len() {
-        let t = word(list, at);
-        if t | x == x {
-            n = std::num::wrapping_add_u32(n, 1);
-        }
+    while at < half {
+        n = counted(n, word(list, at), x);
+        n = counted(n, word(list, half + at), x);
         at += 4;
     }
-    n % 2
+    if list.len() / 4 % 2 == 0 {
+        return n % 2;
+    }
+    counted(n, word(list, 2 * half), x) % 2
 }

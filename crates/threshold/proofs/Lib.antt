@@ -6,6 +6,6 @@ pub mod Tests
 pub mod Stages
 pub mod Meetings
 pub mod Dependence
-pub mod Described
 pub mod Walk
+pub mod Described
 pub mod Running

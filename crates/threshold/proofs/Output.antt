@@ -2,14 +2,14 @@
 -- The lists stand low bit first, so each law peels the first list and halves. Assumes nothing.
 use mathlib.Core.Path.{_≡_, refl, sym, ap, ap₂, _∙_, subst}
 use mathlib.Core.List.{List, [], _∷_}
-use Prim.Native.Nat.{ℕ, zero, suc, _+_, _-_, _*_, _/_, _%_, _^_, _≤_, _<_}
-use native.Mathlib.Nat.{le-refl, pow-suc, zero-lt-suc, div-one, mod-one, zero-div, zero-mod, mul-comm, div-div-eq-div-mul, add-zero, lt-of-lt-of-le}
+use Prim.Native.Nat.{ℕ, zero, suc, _+_, _-_, _*_, _/_, _%_, _^_, _<_}
+use native.Mathlib.Nat.{le-refl, pow-suc, zero-lt-suc, div-one, mod-one, zero-div, zero-mod, mul-comm, div-div-eq-div-mul, add-zero}
 use native.Mathlib.Omega.{arith}
 use native.Mathlib.Numerals.{add-one}
 use lib.Arith.{digits-lt, digits-div, digits-mod, mod-mul}
-use lib.Pow.{pow-pos, pow-mono}
-use lib.ListN.{length, getD, take, drop, length-take, length-drop, drop-of-length-le}
-use lib.Seq.{getD-take, getD-drop, drop-cons, drop-length, take-all}
+use lib.Pow.{pow-pos}
+use lib.ListN.{length, getD, take, drop, length-take}
+use lib.Seq.{getD-take, getD-drop, drop-cons, drop-length}
 use Rattle.anf.specs.Terms.{valueAt}
 use Rattle.anf.proofs.Terms.{valueAt-lt}
 use Rattle.threshold.specs.Sharing.{share}
@@ -96,38 +96,3 @@ module _ (σ τ : ℕ) where
     where
       at : (ρ : ℕ) → output (take w (drop (w * j) ls)) ρ / 2 ^ b % 2 ≡ valueAt (getD ls (w * j + b) []) ρ
       at ρ = output-bit ρ b (take w (drop (w * j) ls)) ∙ ap (λ (l : List ℕ). valueAt l ρ) (getD-take w (drop (w * j) ls) b [] lt ∙ getD-drop (w * j) ls b [])
-
--- ---- the n lists that start at list `from`, as code reads them: from the last down
-
-module _ (x n from : ℕ) (ls : List (List ℕ)) (fits : from + n ≤ length ls) where
-  window-length : length (take n (drop from ls)) ≡ n
-  window-length = length-take n (drop from ls) ∙ (let e = length-drop from ls in omega arith)
-
-  pub window-start : output (drop n (take n (drop from ls))) x ≡ 0
-  unfolding output
-  window-start =
-      let e : length (take n (drop from ls)) ≤ n = omega (arith, window-length) in
-      rw (drop-of-length-le (take n (drop from ls)) e) refl
-
-  pub window-next : (i : ℕ) → i < n
-      → output (drop i (take n (drop from ls))) x ≡ output (drop (i + 1) (take n (drop from ls))) x * 2 + valueAt (getD ls (from + i) []) x
-  window-next i h =
-      output-next x i (take n (drop from ls)) (rw window-length h)
-      ∙ ap (λ (l : List ℕ). output (drop (i + 1) (take n (drop from ls))) x * 2 + valueAt l x) (getD-take n (drop from ls) i [] h ∙ getD-drop from ls i [])
-
-  -- what is read so far is below 2^n
-  pub window-lt : (i : ℕ) → output (drop i (take n (drop from ls))) x < 2 ^ n
-  window-lt i =
-      lt-of-lt-of-le (output-lt (drop i (take n (drop from ls))) x)
-      (pow-mono (let e = length-drop i (take n (drop from ls)) in omega (arith, window-length)))
-
-  pub window-step : (i y v : ℕ) → 0 < i → i ≤ n → y ≡ output (drop i (take n (drop from ls))) x → v ≡ valueAt (getD ls (from + (i - 1)) []) x
-      → 2 * y + v ≡ output (drop (i - 1) (take n (drop from ls))) x
-  window-step i y v p h ey ev =
-      let k : i - 1 + 1 ≡ i = omega arith in
-      let e = window-next (i - 1) (omega arith) in
-      let q : output (drop (i - 1 + 1) (take n (drop from ls))) x ≡ y = rw k (sym ey) in
-      omega arith
-
-pub window-all : (x n : ℕ) (ls : List (List ℕ)) → length ls ≡ n → output (take n (drop 0 ls)) x ≡ output ls x
-window-all x n ls e = ap (λ (l : List (List ℕ)). output l x) (take-all n ls (omega arith))

@@ -1,82 +1,90 @@
--- The records of a stage's lists, walked from the first: each step adds the value of one list, and the walk gives the output of the stage.
+-- Lists as code reads them, from the last down: each step adds the value of one list below those so far, and the last step gives the output of all.
 -- Assumes nothing.
-use mathlib.Core.Path.{_≡_, sym, ap, _∙_, subst}
-use mathlib.Core.List.{List}
-use Prim.Native.Nat.{ℕ, zero, suc, _+_, _*_, _^_, _≤_, _<_}
-use native.Mathlib.Nat.{add-mul, mul-assoc, mul-le-mul-right, lt-of-lt-of-le}
-use native.Mathlib.Numerals.{add-one}
+use mathlib.Core.Path.{_≡_, refl, sym, ap, _∙_}
+use mathlib.Core.List.{List, []}
+use Prim.Native.Nat.{ℕ, _+_, _-_, _*_, _^_, _≤_, _<_}
+use native.Mathlib.Nat.{lt-of-lt-of-le}
 use native.Mathlib.Omega.{arith}
-use lib.ListN.{length, drop}
+use lib.ListN.{getD, drop, length-drop}
 use lib.Pow.{pow-mono}
 use Rattle.anf.specs.Terms.{valueAt}
-use Rattle.anf.proofs.Terms.{valueAt-lt}
 use Rattle.design.specs.Limits.{greatestShareBits}
 use Rattle.design.specs.Bytes.{terms}
-use Rattle.design.specs.StageLists.{bodyAt, behindAt, Holds, listsOf}
-use Rattle.design.proofs.StageLists.{record-fits, record-rest, listsOf-next}
+use Rattle.design.specs.StageLists.{bodyAt, Inside, AllInside, listsOf}
+use Rattle.design.proofs.StageLists.{listsOf-length, listsOf-at}
 use Rattle.threshold.specs.Stages.{output}
+use Rattle.threshold.proofs.Output.{output-lt, output-none, output-next}
 
--- the value of the record at `at`, from its body
-pub body-value : (b l : List ℕ) (at v x : ℕ) → l ≡ bodyAt b at → v ≡ valueAt (terms l) x → v ≡ valueAt (terms (bodyAt b at)) x
-body-value b l at v x h e = e ∙ ap (λ (k : List ℕ). valueAt (terms k) x) h
+module _ (f starts : List ℕ) (first n x : ℕ) where
+  -- at the place `at` of the starts, the start `next` stands there, and y is the output of the lists from there on
+  pub record Walked (at next y : ℕ) : Type 0 where
+    pub i : ℕ
+    pub place : at ≡ first + i
+    pub most : i ≤ n
+    pub start : next ≡ getD starts at 0
+    pub value : y ≡ output (drop i (listsOf f starts first n)) x
 
--- After i lists of n, at the place `at`: y holds their values, and those of the lists that are left stand above them.
-pub record Walked (b : List ℕ) (n x i at y : ℕ) : Type 0 where
-  pub left : ℕ
-  pub all : i + left ≡ n
-  pub holds : Holds left (drop at b)
-  pub value : output (listsOf left (drop at b)) x * 2 ^ i + y ≡ output (listsOf n b) x
-  pub small : y < 2 ^ i
+  pub walked-first : Walked (first + n) (getD starts (first + n) 0) 0
+  walked-first =
+      let ls = listsOf f starts first n in
+      record {
+        i = n;
+        place = refl;
+        most = omega arith;
+        start = refl;
+        value = sym (output-none x ls) ∙ ap (λ (k : ℕ). output (drop k ls) x) (listsOf-length f starts first n);
+      }
 
-pub walked-first : (b : List ℕ) (n x : ℕ) → Holds n b → Walked b n x 0 0 0
-walked-first b n x h = record { left = n; all = omega arith; holds = h; value = omega arith; small = omega arith }
+  module _ (at next y : ℕ) (w : Walked at next y) where
+    walked-lt : y < 2 ^ n
+    walked-lt =
+        let e = listsOf-length f starts first n in
+        let k = length-drop (w .i) (listsOf f starts first n) in
+        rw (w .value) (lt-of-lt-of-le (output-lt (drop (w .i) (listsOf f starts first n)) x) (pow-mono (omega arith)))
 
--- the record that the walk has reached
-pub walked-fits : (b : List ℕ) (n x i at y : ℕ) → Walked b n x i at y → i < n → behindAt b at ≤ length b
-walked-fits b n x i at y w h = go (w .left) (w .all) (w .holds)
-  where
-    go : (left : ℕ) → i + left ≡ n → Holds left (drop at b) → behindAt b at ≤ length b
-    go zero e k = absurd (omega arith)
-    go (suc left) e k = record-fits b at left k
+    -- what is read so far fits the greatest share bits
+    pub walked-small : n ≤ greatestShareBits → y < 2 ^ greatestShareBits
+    walked-small h = lt-of-lt-of-le walked-lt (pow-mono {j = greatestShareBits} h)
 
--- the value of the record at `at` is the lowest bit of what is left
-output-record : (b : List ℕ) (x left at v : ℕ) → v ≡ valueAt (terms (bodyAt b at)) x
-    → output (listsOf (suc left) (drop at b)) x ≡ output (listsOf left (drop (behindAt b at) b)) x * 2 + v
-unfolding output
-output-record b x left at v e = ap (λ (ls : List (List ℕ)). output ls x) (listsOf-next b at left) ∙ ap (λ (q : ℕ). output (listsOf left (drop (behindAt b at) b)) x * 2 + q) (sym e)
+    pub walked-last : at ≤ first → (y ≡ output (listsOf f starts first n) x) × (y < 2 ^ n)
+    walked-last h =
+        let z : w .i ≡ 0 = (let p = w .place in omega arith) in
+        (w .value ∙ ap (λ (k : ℕ). output (drop k (listsOf f starts first n)) x) z, walked-lt)
 
-pub walked-next : (b : List ℕ) (n x i at y v : ℕ) → Walked b n x i at y → i < n → v ≡ valueAt (terms (bodyAt b at)) x
-    → Walked b n x (i + 1) (behindAt b at) (y + v * 2 ^ i)
-walked-next b n x i at y v w h ev = go (w .left) (w .all) (w .holds) (w .value)
-  where
-    go : (left : ℕ) → i + left ≡ n → Holds left (drop at b) → output (listsOf left (drop at b)) x * 2 ^ i + y ≡ output (listsOf n b) x
-        → Walked b n x (i + 1) (behindAt b at) (y + v * 2 ^ i)
-    go zero e k q = absurd (omega arith)
-    go (suc left) e k q =
-        let o = output (listsOf left (drop (behindAt b at) b)) x in
-        let r : (o * 2 + v) * 2 ^ i + y ≡ output (listsOf n b) x = ap (λ (z : ℕ). z * 2 ^ i + y) (sym (output-record b x left at v ev)) ∙ q in
-        let p : 2 ^ (i + 1) ≡ 2 * 2 ^ i = rw add-one (omega arith) in
-        let a = add-mul (o * 2) v (2 ^ i) in
-        let c : o * 2 ^ (i + 1) ≡ o * 2 * 2 ^ i = ap (λ (z : ℕ). o * z) p ∙ sym (mul-assoc o 2 (2 ^ i)) in
-        let m : v * 2 ^ i ≤ 1 * 2 ^ i = mul-le-mul-right (2 ^ i) (let z = valueAt-lt (terms (bodyAt b at)) x in omega arith) in
-        let u = w .small in
-        record {
-          left = left;
-          all = omega arith;
-          holds = record-rest b at left k;
-          value = omega arith;
-          small = omega arith;
-        }
+    -- the list before it
+    module _ (h : first < at) where
+      before : first + (w .i - 1) ≡ at - 1
+      before = let p = w .place in omega arith
 
--- what code has made so far fits the greatest share bits
-pub walked-small : (b : List ℕ) (n x i at y v : ℕ) → Walked b n x i at y → i < n → n ≤ greatestShareBits → v ≡ valueAt (terms (bodyAt b at)) x
-    → y + v * 2 ^ i < 2 ^ greatestShareBits
-walked-small b n x i at y v w h l e = lt-of-lt-of-le (walked-next b n x i at y v w h e .small) (pow-mono {j = greatestShareBits} (omega arith))
+      here : first + (w .i - 1) + 1 ≡ at
+      here = let p = w .place in omega arith
 
-pub walked-last : (b : List ℕ) (n x i at y : ℕ) → Walked b n x i at y → n ≤ i → (y ≡ output (listsOf n b) x) × (y < 2 ^ n)
-unfolding listsOf output
-walked-last b n x i at y w h = go (w .left) (w .all) (w .value)
-  where
-    go : (left : ℕ) → i + left ≡ n → output (listsOf left (drop at b)) x * 2 ^ i + y ≡ output (listsOf n b) x → (y ≡ output (listsOf n b) x) × (y < 2 ^ n)
-    go zero e q = let z : i ≡ n = omega arith in (omega arith, subst (λ (k : ℕ). y < 2 ^ k) z (w .small))
-    go (suc left) e q = absurd (omega arith)
+      inside : w .i - 1 < n
+      inside = let p = w .place in let m = w .most in omega arith
+
+      pub walked-inside : AllInside f starts first n → Inside f (getD starts (at - 1) 0) next
+      walked-inside l = rw (w .start, sym before) (moved (l (w .i - 1) inside))
+        where
+          moved : Inside f (getD starts (first + (w .i - 1)) 0) (getD starts (first + (w .i - 1) + 1) 0) → Inside f (getD starts (first + (w .i - 1)) 0) (getD starts at 0)
+          moved k = rw (sym here) k
+
+      pub walked-next : (v : ℕ) → v ≡ valueAt (terms (bodyAt f (getD starts (at - 1) 0) next)) x → Walked (at - 1) (getD starts (at - 1) 0) (2 * y + v)
+      walked-next v e =
+          let ls = listsOf f starts first n in
+          let k = listsOf-length f starts first n in
+          let b : getD ls (w .i - 1) [] ≡ terms (bodyAt f (getD starts (at - 1) 0) next) =
+          listsOf-at f starts first n (w .i - 1) inside
+          ∙ ap (λ (a : ℕ). terms (bodyAt f (getD starts a 0) (getD starts (first + (w .i - 1) + 1) 0))) before
+          ∙ ap (λ (a : ℕ). terms (bodyAt f (getD starts (at - 1) 0) (getD starts a 0))) here
+          ∙ ap (λ (a : ℕ). terms (bodyAt f (getD starts (at - 1) 0) a)) (sym (w .start)) in
+          let j : w .i - 1 + 1 ≡ w .i = (let p = w .place in omega arith) in
+          let o = output-next x (w .i - 1) ls (rw k inside) in
+          let q : output (drop (w .i - 1 + 1) ls) x ≡ y = rw j (sym (w .value)) in
+          let r : valueAt (getD ls (w .i - 1) []) x ≡ v = rw b (sym e) in
+          record {
+            i = w .i - 1;
+            place = sym before;
+            most = (let m = inside in omega arith);
+            start = refl;
+            value = omega arith;
+          }

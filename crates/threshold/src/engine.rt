@@ -2,36 +2,28 @@
 use design::Layout;
 ghost use mathlib.Core.Path.{_≡_};
 ghost use Prim.Native.Nat.{_+_, _-_, _*_, _^_, _≤_, _<_};
-ghost use lib.ListN.{take, drop};
+ghost use lib.ListN.{length};
 ghost use Rattle.design.specs.Limits.{greatestWidth, greatestShareBits};
 ghost use Rattle.design.specs.Design.{stageOf};
 ghost use Rattle.design.specs.Reading.{meaning};
 ghost use Rattle.design.specs.Layout.{Describes};
-ghost use Rattle.design.specs.StageLists.{Holds, listsOf};
+ghost use Rattle.design.specs.StageLists.{AllInside, listsOf};
 ghost use Rattle.threshold.specs.Sharing.{sum};
 ghost use Rattle.threshold.specs.Stages.{output, component};
 
-// The bit `v` at place `i`.
-fn placed_bit(v: u32, i: usize) -> u32
-    requires { ⌜ (v < 2) × (i < greatestShareBits) ⌝ }
-    ensures { λ r. ⌜ r ≡ v * 2 ^ i ⌝ }
-{
-    v << (i as u32)
-}
-
-// The output at the sharing `x` of the lists of the first `n` records.
-pub fn output_of(records: &[u8], n: usize, x: u32) -> u32
-    requires { ⌜ Holds n (now records) × (n ≤ greatestShareBits) ⌝ }
-    ensures { λ r. ⌜ (r ≡ output (listsOf n (now (records .entry))) x) × (r < 2 ^ n) ⌝ }
+// The output at the sharing `x` of `n` lists, whose bodies start where `starts` has it from `first` on.
+pub fn output_of(file: &[u8], starts: &[usize], first: usize, n: usize, x: u32) -> u32
+    requires { ⌜ AllInside (now file) (now starts) first n × (first + n < length (now starts)) × (n ≤ greatestShareBits) ⌝ }
+    ensures { λ r. ⌜ (r ≡ output (listsOf (now (file .entry)) (now (starts .entry)) first n) x) × (r < 2 ^ n) ⌝ }
 {
     let mut y: u32 = 0;
-    let mut at: usize = 0;
-    let mut i: usize = 0;
-    while i < n {
-        let v = design::value(design::body(records, at), x);
-        y = y + placed_bit(v, i);
-        at = design::behind(records, at);
-        i += 1;
+    let mut at = first + n;
+    let mut next = starts[at];
+    while at > first {
+        at -= 1;
+        let start = starts[at];
+        y = 2 * y + design::value(design::body(file, start, next), x);
+        next = start;
     }
     y
 }
@@ -41,26 +33,9 @@ pub fn output_at(file: &[u8], layout: Layout, t: usize, x: u32) -> u32
     requires { ⌜ Describes (now file) layout × (t < layout .head .k) ⌝ }
     ensures { λ r. ⌜ (r ≡ output (stageOf (meaning (now (file .entry))) t .lists) x) × (r < 2 ^ (layout .head .m * layout .head .s)) ⌝ }
 {
-    output_of(
-        design::lists(file, layout, t),
-        layout.head.m * layout.head.s,
-        x,
-    )
-}
-
-// The output at the sharing `x` of the `n` lists of stage `t` that start at list `from`.
-fn outputs(file: &[u8], layout: Layout, t: usize, from: usize, n: usize, x: u32) -> u32
-    requires { ⌜ Describes (now file) layout × (t < layout .head .k) × (from + n ≤ layout .head .m * layout .head .s) ⌝ }
-    ensures { λ r. ⌜ (r ≡ output (take n (drop from (stageOf (meaning (now (file .entry))) t .lists))) x) × (r < 2 ^ n) ⌝ }
-{
-    let mut y: u32 = 0;
-    let mut i = n;
-    while i > 0 {
-        i -= 1;
-        let list = design::list(file, layout, t, from + i);
-        y = 2 * y + design::value(list, x);
-    }
-    y
+    let starts = layout.starts;
+    let first = design::number(layout.head, t, 1);
+    output_of(file, &starts, first, layout.head.m * layout.head.s, x)
 }
 
 // What component `j` of stage `t` gives at the sharing `x`.
@@ -68,7 +43,9 @@ pub fn component_at(file: &[u8], layout: Layout, t: usize, j: usize, x: u32) -> 
     requires { ⌜ Describes (now file) layout × (t < layout .head .k) × (j < layout .head .s) ⌝ }
     ensures { λ r. ⌜ (r ≡ component (layout .head .m) (stageOf (meaning (now (file .entry))) t .lists) j x) × (r < 2 ^ layout .head .m) ⌝ }
 {
-    outputs(file, layout, t, layout.head.m * j, layout.head.m, x)
+    let starts = layout.starts;
+    let first = design::number(layout.head, t, layout.head.m * j + 1);
+    output_of(file, &starts, first, layout.head.m, x)
 }
 
 // 2 to the power of `m`, less 1.

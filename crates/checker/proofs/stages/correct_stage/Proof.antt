@@ -1,25 +1,29 @@
 -- `correct_stage` meets its contract: every sharing passed sums to what it should.
 use mathlib.Core.Path.{_≡_, refl, sym, ap, _∙_}
 use mathlib.Core.Bool.{true}
-use Prim.Native.Nat.{ℕ, _-_, _≤_}
+use Prim.Native.Nat.{ℕ, _*_, _-_, _≤_}
 use native.Mathlib.Omega.{arith}
 use lib.ListN.{getD}
+use borrow.Author.Needs.{needs}
 use borrow.Author.Tests.{not-true, not-false}
 use lib.Dec.{eqb}
 use Rattle.anf.specs.Tests.{all}
 use Rattle.anf.proofs.Testing.{all-more}
-use Rattle.design.proofs.Answered.{described}
-use Rattle.threshold.specs.Sharing.{sum}
+use Rattle.design.specs.Bytes.{Bytes}
 use Rattle.design.specs.StageLists.{listsOf}
+use Rattle.design.proofs.Answered.{described}
+use Rattle.design.proofs.Found.{limits}
+use Rattle.design.proofs.StageLists.{lists-inside, lists-known, lists-all}
+use Rattle.threshold.specs.Sharing.{sum}
 use Rattle.checker.proofs.Judging.{agreesAt, wrong-lists, right-lists, table-points}
 use Rattle.checker.proofs.stages.correct_stage.Statement.{statement}
 use Rattle.checker.proofs.stages.correct_stage.Tie as tie
 
 abbrev Inv-loop : tie.InvT-loop
-Inv-loop file t m s n table records bits x₀ x = (x ≤ n) × (all x (agreesAt m s (listsOf bits records) table) ≡ true)
+Inv-loop file t m s n table starts first bits x₀ x = (x ≤ n) × (all x (agreesAt m s (listsOf file starts first bits) table) ≡ true)
 
 abbrev μ-loop : tie.MeasureT-loop
-μ-loop file t m s n table records bits x₀ x = n - x
+μ-loop file t m s n table starts first bits x₀ x = n - x
 
 sharings-requires : tie.Need-sharings-requires Inv-loop μ-loop
 sharings-requires c κs = described (c .before .pre .0) .bounds .bits
@@ -27,52 +31,52 @@ sharings-requires c κs = described (c .before .pre .0) .bounds .bits
 table-requires : tie.Need-table-requires Inv-loop μ-loop
 table-requires c κs = c .before .before .pre
 
-lists-requires : tie.Need-lists-requires Inv-loop μ-loop
-lists-requires c κs = c .before .before .before .pre
+number-requires : tie.Need-number-requires Inv-loop μ-loop
+number-requires c κs = let b = described (c .before .before .before .before .pre .0) .bounds .bits-low in (limits _ _ (c .before .before .before .before .pre .0), c .before .before .before .before .pre .1, omega arith)
 
 mul-bits : tie.Need-mul-bits Inv-loop μ-loop
-mul-bits c = let b = described (c .before .before .before .before .before .pre .0) .bounds .bits in omega arith
+mul-bits c = let b = described (c .before .before .before .before .before .before .pre .0) .bounds .bits in omega arith
 
 loop-holds : tie.Need-loop-holds Inv-loop μ-loop
 unfolding all
 loop-holds c = (omega arith, refl)
 
+slice-aggregate-output-of : tie.Need-slice-aggregate-output-of Inv-loop μ-loop
+slice-aggregate-output-of c = search needs
+
 output-of-requires : tie.Need-output-of-requires Inv-loop μ-loop
-output-of-requires c κs = (c .before .before .before .lists .ensures .0, described (c .before .before .before .before .before .before .before .pre .0) .bounds .bits)
+output-of-requires c κs =
+    let b : Bytes (c .before .before .before .before .before .before .before .before .before .args .file .now) = λ i. omega (arith, c .before .before .before .before .before .before .before .before .shared-slice-known .given i) in
+    let n = c .before .before .before .before .before .before .before .before .before .args .layout .head .m * c .before .before .before .before .before .before .before .before .before .args .layout .head .s in
+    let k = lists-known _ b _ (c .before .before .before .before .before .before .before .before .before .pre .0) _ (c .before .before .before .before .before .before .before .before .before .pre .1) 0 n _ (omega arith) (c .before .before .before .before .number .ensures .0) in
+    (lists-inside _ b _ (c .before .before .before .before .before .before .before .before .before .pre .0) _ (c .before .before .before .before .before .before .before .before .before .pre .1) 0 n _ (omega arith) (c .before .before .before .before .number .ensures .0), search needs, described (c .before .before .before .before .before .before .before .before .before .pre .0) .bounds .bits)
 
 agrees-requires : tie.Need-agrees-requires Inv-loop μ-loop
-agrees-requires c κs = (omega (arith, described (c .before .before .before .before .before .before .before .before .pre .0) .bounds .m-high), table-points _ _ (c .before .before .before .before .before .before .before .before .pre .0) _ (c .before .before .before .before .before .before .before .before .pre .1) _ (c .before .before .before .before .before .table .ensures))
+agrees-requires c κs = (omega (arith, described (c .before .before .before .before .before .before .before .before .before .before .pre .0) .bounds .m-high), table-points _ _ (c .before .before .before .before .before .before .before .before .before .before .pre .0) _ (c .before .before .before .before .before .before .before .before .before .before .pre .1) _ (c .before .before .before .before .before .before .before .table .ensures))
 
 returns : tie.Need-returns Inv-loop μ-loop
-returns c = sym (wrong-lists _ _ (c .before .before .before .before .before .before .before .before .before .before .pre .0) _ (c .before .before .before .before .before .before .before .before .before .before .pre .1) _ _ (c .before .before .before .before .before .before .lists .ensures .1) (c .before .before .before .before .before .before .before .table .ensures) (c .before .before .before .before .loop .x) (omega (arith, c .before .before .before .before .before .before .before .before .sharings .ensures .0)) (sym (c .before .agrees .ensures ∙ ap (λ (y : ℕ). eqb (sum (c .before .before .before .before .before .before .before .before .before .before .args .layout .head .m) (c .before .before .before .before .before .before .before .before .before .before .args .layout .head .s) y) (getD (c .before .before .before .before .before .before .before .table .result .now) (sum (c .before .before .before .before .before .before .before .before .before .before .args .layout .head .m) (c .before .before .before .before .before .before .before .before .before .before .args .layout .head .s) (c .before .before .before .before .loop .x)) 0)) (c .before .before .output-of .ensures .0)) ∙ not-true _ (c .if1 .taken)))
+returns c =
+    let b : Bytes (c .before .before .before .before .before .before .before .before .before .before .before .before .args .file .now) = λ i. omega (arith, c .before .before .before .before .before .before .before .before .before .before .before .shared-slice-known .given i) in
+    let e = lists-all _ b _ (c .before .before .before .before .before .before .before .before .before .before .before .before .pre .0) _ (c .before .before .before .before .before .before .before .before .before .before .before .before .pre .1) _ (c .before .before .before .before .before .before .before .number .ensures .0) in
+    let p = c .before .agrees .ensures ∙ ap (λ (y : ℕ). eqb (sum (c .before .before .before .before .before .before .before .before .before .before .before .before .args .layout .head .m) (c .before .before .before .before .before .before .before .before .before .before .before .before .args .layout .head .s) y) (getD (c .before .before .before .before .before .before .before .before .before .table .result .now) (sum (c .before .before .before .before .before .before .before .before .before .before .before .before .args .layout .head .m) (c .before .before .before .before .before .before .before .before .before .before .before .before .args .layout .head .s) (c .before .before .before .before .before .loop .x)) 0)) (c .before .before .output-of .ensures .0) in
+    sym (wrong-lists _ _ (c .before .before .before .before .before .before .before .before .before .before .before .before .pre .0) _ (c .before .before .before .before .before .before .before .before .before .before .before .before .pre .1) _ _ e (c .before .before .before .before .before .before .before .before .before .table .ensures) (c .before .before .before .before .before .loop .x) (omega (arith, c .before .before .before .before .before .before .before .before .before .before .sharings .ensures .0)) (sym p ∙ not-true _ (c .if1 .taken)))
 
 add-x : tie.Need-add-x Inv-loop μ-loop
-add-x c = omega (arith, c .before .before .before .before .before .before .before .before .sharings .ensures .1)
+add-x c = omega (arith, c .before .before .before .before .before .before .before .before .before .before .sharings .ensures .1)
 
 loop-less : tie.Need-loop-less Inv-loop μ-loop
 loop-less c = omega arith
 
 loop-again : tie.Need-loop-again Inv-loop μ-loop
-loop-again c = (omega arith, all-more _ _ (c .before .before .before .before .loop .inv .1) (sym (c .before .agrees .ensures ∙ ap (λ (y : ℕ). eqb (sum (c .before .before .before .before .before .before .before .before .before .before .args .layout .head .m) (c .before .before .before .before .before .before .before .before .before .before .args .layout .head .s) y) (getD (c .before .before .before .before .before .before .before .table .result .now) (sum (c .before .before .before .before .before .before .before .before .before .before .args .layout .head .m) (c .before .before .before .before .before .before .before .before .before .before .args .layout .head .s) (c .before .before .before .before .loop .x)) 0)) (c .before .before .output-of .ensures .0)) ∙ not-false _ (c .if1 .left)))
+loop-again c =
+    let p = c .before .agrees .ensures ∙ ap (λ (y : ℕ). eqb (sum (c .before .before .before .before .before .before .before .before .before .before .before .before .args .layout .head .m) (c .before .before .before .before .before .before .before .before .before .before .before .before .args .layout .head .s) y) (getD (c .before .before .before .before .before .before .before .before .before .table .result .now) (sum (c .before .before .before .before .before .before .before .before .before .before .before .before .args .layout .head .m) (c .before .before .before .before .before .before .before .before .before .before .before .before .args .layout .head .s) (c .before .before .before .before .before .loop .x)) 0)) (c .before .before .output-of .ensures .0) in
+    (omega arith, all-more _ _ (c .before .before .before .before .before .loop .inv .1) (sym p ∙ not-false _ (c .if1 .left)))
 
 returns-2 : tie.Need-returns-2 Inv-loop μ-loop
-returns-2 c = sym (right-lists _ _ (c .before .before .before .before .before .before .before .pre .0) _ (c .before .before .before .before .before .before .before .pre .1) _ _ (c .before .before .before .lists .ensures .1) (c .before .before .before .before .table .ensures) (c .before .loop .x) (omega (arith, c .before .before .before .before .before .sharings .ensures .0)) (c .before .loop .inv .1))
+returns-2 c =
+    let b : Bytes (c .before .before .before .before .before .before .before .before .args .file .now) = λ i. omega (arith, c .before .before .before .before .before .before .before .shared-slice-known .given i) in
+    let e = lists-all _ b _ (c .before .before .before .before .before .before .before .before .pre .0) _ (c .before .before .before .before .before .before .before .before .pre .1) _ (c .before .before .before .number .ensures .0) in
+    sym (right-lists _ _ (c .before .before .before .before .before .before .before .before .pre .0) _ (c .before .before .before .before .before .before .before .before .pre .1) _ _ e (c .before .before .before .before .before .table .ensures) (c .before .loop .x) (omega (arith, c .before .before .before .before .before .before .sharings .ensures .0)) (c .before .loop .inv .1))
 
 pub correct-stage-spec : {M : Type 1} → statement M
-correct-stage-spec =
-    tie.close
-    (tie.spec
-    Inv-loop
-    μ-loop
-    sharings-requires
-    table-requires
-    lists-requires
-    mul-bits
-    loop-holds
-    output-of-requires
-    agrees-requires
-    returns
-    add-x
-    loop-less
-    loop-again
-    returns-2)
+correct-stage-spec = tie.close (tie.spec Inv-loop μ-loop sharings-requires table-requires number-requires mul-bits loop-holds slice-aggregate-output-of output-of-requires agrees-requires returns add-x loop-less loop-again returns-2)

@@ -1,79 +1,67 @@
--- `threshold::output_of` meets its contract. The invariant: y holds the values of the first i lists, and the rest stands at `at`.
+-- `threshold::output_of` meets its contract. The invariant: y is the output of the lists from the place `at` on.
 use native.Mathlib.Omega.{arith}
-use Prim.Native.Nat.{_-_, _≤_}
+use mathlib.Core.Path.{ap, _∙_}
+use mathlib.Core.List.{List}
+use Prim.Native.Nat.{ℕ, _-_}
+use denote.Ref.{now}
+use Rattle.anf.specs.Terms.{valueAt}
 use Rattle.anf.proofs.Terms.{valueAt-lt}
-use Rattle.threshold.proofs.Walk.{Walked, walked-first, walked-fits, walked-next, walked-small, walked-last, body-value}
+use Rattle.design.specs.Bytes.{terms}
+use Rattle.threshold.proofs.Walk.{Walked, walked-first, walked-small, walked-inside, walked-next, walked-last}
 use Rattle.threshold.proofs.engine.output_of.Statement.{statement}
 use Rattle.threshold.proofs.engine.output_of.Tie as tie
 
 abbrev Inv-loop : tie.InvT-loop
-Inv-loop records n x y₀ at₀ i₀ y at i = (i ≤ n) × Walked records n x i at y
+Inv-loop file starts first n x y₀ at₀ next₀ y at next = Walked file starts first n x at next y
 
 abbrev μ-loop : tie.MeasureT-loop
-μ-loop records n x y₀ at₀ i₀ y at i = n - i
+μ-loop file starts first n x y₀ at₀ next₀ y at next = at
+
+add-at : tie.Need-add-at Inv-loop μ-loop
+add-at c = omega arith
+
+mul-next : tie.Need-mul-next Inv-loop μ-loop
+mul-next c = omega arith
+
+shared-slice-read-next : tie.Need-shared-slice-read-next Inv-loop μ-loop
+shared-slice-read-next c = omega arith
 
 loop-holds : tie.Need-loop-holds Inv-loop μ-loop
-loop-holds c = (omega arith, walked-first _ _ _ (c .before .pre .0))
+loop-holds c = walked-first _ _ _ _ _
+
+sub-at : tie.Need-sub-at Inv-loop μ-loop
+sub-at c = omega arith
+
+mul-start : tie.Need-mul-start Inv-loop μ-loop
+mul-start c = let p = c .before .loop .inv .place in let m = c .before .loop .inv .most in omega arith
+
+shared-slice-read-start : tie.Need-shared-slice-read-start Inv-loop μ-loop
+shared-slice-read-start c = let p = c .before .before .loop .inv .place in let m = c .before .before .loop .inv .most in omega arith
+
+mul-y : tie.Need-mul-y Inv-loop μ-loop
+mul-y c = let u = walked-small _ _ _ _ (c .before .before .before .before .before .before .args .x) _ _ _ (c .before .before .loop .inv) (c .before .before .before .before .before .before .pre .2) in omega arith
 
 body-requires : tie.Need-body-requires Inv-loop μ-loop
-body-requires c κs = walked-fits _ _ _ _ _ _ (c .before .loop .inv .1) (c .loop-test .taken)
+body-requires c κs = walked-inside _ _ _ _ (c .before .before .before .before .before .before .args .x) _ _ _ (c .before .before .loop .inv) (c .before .loop-test .taken) (c .before .before .before .before .before .before .pre .0)
 
 value-requires : tie.Need-value-requires Inv-loop μ-loop
 value-requires c κs = tt
 
-placed-bit-requires : tie.Need-placed-bit-requires Inv-loop μ-loop
-placed-bit-requires c κs =
-    let a = c .before .before .before .before .before .args in
-    let e = c .value .ensures in
-    let n = c .before .before .before .before .before .pre .1 in
-    let u = c .before .before .loop-test .taken in
-    (rw e (valueAt-lt _ (a .x)), omega arith)
-
 add-y : tie.Need-add-y Inv-loop μ-loop
 add-y c =
-    let a = c .before .before .before .before .before .before .args in
-    let o = c .before .before .before .before .loop in
-    let n = c .before .before .before .before .before .before .pre .1 in
-    let u = walked-small _ _ (a .x) (o .i) (o .at) (o .y) (c .before .value .result) (o .inv .1) (c .before .before .before .loop-test .taken) n
-    (body-value _ _ (o .at) _ (a .x) (c .before .before .body .ensures) (c .before .value .ensures)) in
-    let e = c .placed-bit .ensures in
+    let u = walked-small _ _ _ _ (c .before .before .before .before .before .before .before .before .args .x) _ _ _ (c .before .before .before .before .loop .inv) (c .before .before .before .before .before .before .before .before .pre .2) in
+    let v = valueAt-lt (terms (now (c .before .body .result))) (c .before .before .before .before .before .before .before .before .args .x) in
+    let w = c .value .ensures in
     omega arith
-
-behind-requires : tie.Need-behind-requires Inv-loop μ-loop
-behind-requires c κs = walked-fits _ _ _ _ _ _ (c .before .before .before .before .loop .inv .1) (c .before .before .before .loop-test .taken)
-
-add-i : tie.Need-add-i Inv-loop μ-loop
-add-i c = omega arith
 
 loop-less : tie.Need-loop-less Inv-loop μ-loop
 loop-less c = omega arith
 
 loop-again : tie.Need-loop-again Inv-loop μ-loop
-loop-again c =
-    let a = c .before .before .before .before .before .before .before .args in
-    let o = c .before .before .before .before .before .loop in (
-      omega arith,
-      rw (c .behind .ensures, c .before .placed-bit .ensures)
-          (walked-next _ _ (a .x) (o .i) (o .at) (o .y) (c .before .before .value .result) (o .inv .1) (c .before .before .before .before .loop-test .taken)
-          (body-value _ _ (o .at) _ (a .x) (c .before .before .before .body .ensures) (c .before .before .value .ensures))),
-    )
+loop-again c = walked-next _ _ _ _ (c .before .before .before .before .before .before .before .before .args .x) _ _ _ (c .before .before .before .before .loop .inv) (c .before .before .before .loop-test .taken) _ (c .value .ensures ∙ ap (λ (l : List ℕ). valueAt (terms l) (c .before .before .before .before .before .before .before .before .args .x)) (c .before .body .ensures))
 
 returns : tie.Need-returns Inv-loop μ-loop
-returns c = walked-last _ _ _ _ _ _ (c .before .loop .inv .1) (c .loop-test .left)
+returns c = walked-last _ _ _ _ _ _ _ _ (c .before .loop .inv) (c .loop-test .left)
 
 pub output-of-spec : {M : Type 1} → statement M
-output-of-spec =
-    tie.close
-    (tie.spec
-    Inv-loop
-    μ-loop
-    loop-holds
-    body-requires
-    value-requires
-    placed-bit-requires
-    add-y
-    behind-requires
-    add-i
-    loop-less
-    loop-again
-    returns)
+output-of-spec = tie.close (tie.spec Inv-loop μ-loop add-at mul-next shared-slice-read-next loop-holds sub-at mul-start shared-slice-read-start mul-y body-requires value-requires add-y loop-less loop-again returns)
