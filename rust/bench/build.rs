@@ -1,5 +1,5 @@
-// Builds c/plain.c at -O3, each time under its own prefix: with gcc for this machine and for any x86-64, which is what the library is
-// built for, and with clang for this machine where it is there.
+// Builds c/plain.c at -O3, each time under its own prefix: with gcc for this machine, for any x86-64 with AVX2 and for any x86-64, which is
+// what the library is built for, and with clang for this machine where it is there.
 use std::path::Path;
 use std::process::Command;
 
@@ -13,7 +13,12 @@ fn main() {
     println!("cargo::rustc-check-cfg=cfg(clang)");
     let out = std::env::var("OUT_DIR").expect("cargo sets it");
     println!("cargo::rustc-link-search=native={out}");
-    for (name, compiler, target) in [("gcc", "gcc", "-march=native"), ("any", "gcc", "-march=x86-64"), ("clang", "clang", "-march=native")] {
+    for (name, compiler, target) in [
+        ("gcc", "gcc", "-march=native"),
+        ("avx2", "gcc", "-march=x86-64-v3"),
+        ("any", "gcc", "-march=x86-64"),
+        ("clang", "clang", "-march=native"),
+    ] {
         let object = format!("{out}/plain_{name}.o");
         let archive = format!("{out}/libplain_{name}.a");
         let prefix = format!("-DPREFIX={name}_");

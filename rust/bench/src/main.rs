@@ -1,6 +1,6 @@
-//! The published operations against plain C of the same method (c/plain.c), built by gcc -O3 -march=native, by gcc -O3 for any
-//! x86-64, as the library is, and, where it is there, by clang -O3 -march=native: all in one run, the best of several rounds in turn, as ratios of the library's
-//! processor time to theirs.
+//! The published operations against plain C of the same method (c/plain.c), built by gcc -O3 -march=native, by gcc -O3 for any x86-64
+//! with AVX2, where this machine has it, by gcc -O3 for any x86-64, as the library is, and, where it is there, by clang -O3
+//! -march=native: all in one run, the best of several rounds in turn, as ratios of the library's processor time to theirs.
 //!
 //!     cargo run --release -p bench [-- ROUNDS]
 
@@ -64,6 +64,7 @@ operations!(
     "jestrunas_to_coefficients"
 );
 operations!(gcc, "gcc native", "gcc_read", "gcc_judge", "gcc_run", "gcc_produce", "gcc_to_coefficients");
+operations!(avx2, "gcc x86-64-v3", "avx2_read", "avx2_judge", "avx2_run", "avx2_produce", "avx2_to_coefficients");
 operations!(any, "gcc x86-64", "any_read", "any_judge", "any_run", "any_produce", "any_to_coefficients");
 #[cfg(clang)]
 operations!(clang, "clang native", "clang_read", "clang_judge", "clang_run", "clang_produce", "clang_to_coefficients");
@@ -116,13 +117,13 @@ fn row(what: &str, operation: &str, all: &[Operations], rounds: usize, call: imp
 
 fn main() {
     let rounds = std::env::args().nth(1).map_or(7, |n| n.parse().expect("ROUNDS is a number"));
-    let all = [
-        library::OPERATIONS,
-        gcc::OPERATIONS,
-        any::OPERATIONS,
-        #[cfg(clang)]
-        clang::OPERATIONS,
-    ];
+    let mut all = vec![library::OPERATIONS, gcc::OPERATIONS];
+    if is_x86_feature_detected!("avx2") && is_x86_feature_detected!("bmi2") && is_x86_feature_detected!("fma") {
+        all.push(avx2::OPERATIONS);
+    }
+    all.push(any::OPERATIONS);
+    #[cfg(clang)]
+    all.push(clang::OPERATIONS);
     let names: Vec<String> = all[1..].iter().map(|operations| format!("library / {}", operations.name)).collect();
     println!("| design | operation | library | {} |", names.join(" | "));
     println!("|---|---|---|{}", "---|".repeat(names.len()));
