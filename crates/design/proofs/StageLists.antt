@@ -83,8 +83,18 @@ module _ (f : List ℕ) (b : Bytes f) (y : Layout) (d : Describes f y) (t : ℕ)
         ∙ one (from + i) (first + i) (omega arith) (ap (λ (q : ℕ). q + i) e ∙ number-from from i) .1
         ∙ sym (getD-take n (drop from ls) i [] l ∙ getD-drop from ls i []))
 
-  -- all of them
-  pub lists-all : (first : ℕ) → first ≡ numberOf (y .head) t 1 → listsOf f (y .starts) first (y .head .m * y .head .s) ≡ stageOf (meaning f) t .lists
-  lists-all first e =
-      let g = lists-length f y d t u in
-      lists-are 0 (y .head .m * y .head .s) first (omega arith) e ∙ take-all (y .head .m * y .head .s) (stageOf (meaning f) t .lists) (omega arith)
+-- the lists of stage t, the first of them numbered first
+pub record Stand (f : List ℕ) (y : Layout) (t first : ℕ) : Type 0 where
+  pub inside : AllInside f (y .starts) first (y .head .m * y .head .s)
+  pub known : first + y .head .m * y .head .s < 88
+  pub all : listsOf f (y .starts) first (y .head .m * y .head .s) ≡ stageOf (meaning f) t .lists
+
+pub stand : (f : List ℕ) → Bytes f → (y : Layout) → Describes f y → (t : ℕ) → t < y .head .k → (first : ℕ) → first ≡ numberOf (y .head) t 1 → Stand f y t first
+stand f b y d t u first e =
+    let n = y .head .m * y .head .s in
+    let g = lists-length f y d t u in
+    record {
+      inside = lists-inside f b y d t u 0 n first (omega arith) e;
+      known = lists-known f b y d t u 0 n first (omega arith) e;
+      all = lists-are f b y d t u 0 n first (omega arith) e ∙ take-all n (stageOf (meaning f) t .lists) (omega arith);
+    }
