@@ -29,6 +29,9 @@ module _ (f starts : List ℕ) (first n : ℕ) where
   unfolding listsOf
   listsOf-at i h = tabulate-at n _ i [] h
 
+pub stages-length : (f : List ℕ) (y : Layout) → Describes f y → length (meaning f .stages) ≡ y .head .k
+stages-length f y d = let r = described d in r .formed .count ∙ sym (r .k)
+
 pub lists-length : (f : List ℕ) (y : Layout) → Describes f y → (t : ℕ) → t < y .head .k → length (stageOf (meaning f) t .lists) ≡ y .head .m * y .head .s
 lists-length f y d t u =
     let r = described d in

@@ -7,5 +7,4 @@ pub mod Stages
 pub mod Meetings
 pub mod Dependence
 pub mod Walk
-pub mod Described
 pub mod Running

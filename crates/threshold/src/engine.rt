@@ -28,16 +28,6 @@ pub fn output_of(file: &[u8], starts: &[usize], first: usize, n: usize, x: u32) 
     y
 }
 
-// The output of stage `t` at the sharing `x`.
-pub fn output_at(file: &[u8], layout: Layout, t: usize, x: u32) -> u32
-    requires { ⌜ Describes (now file) layout × (t < layout .head .k) ⌝ }
-    ensures { λ r. ⌜ (r ≡ output (stageOf (meaning (now (file .entry))) t .lists) x) × (r < 2 ^ (layout .head .m * layout .head .s)) ⌝ }
-{
-    let starts = layout.starts;
-    let first = design::number(layout.head, t, 1);
-    output_of(file, &starts, first, layout.head.m * layout.head.s, x)
-}
-
 // What component `j` of stage `t` gives at the sharing `x`.
 pub fn component_at(file: &[u8], layout: Layout, t: usize, j: usize, x: u32) -> u32
     requires { ⌜ Describes (now file) layout × (t < layout .head .k) × (j < layout .head .s) ⌝ }

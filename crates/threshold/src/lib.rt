@@ -3,7 +3,6 @@ mod engine; // engine.rt: the output of a stage, and the sum of a sharing
 mod runs; // runs.rt: stages and chains run on five shares
 
 pub use engine::component_at;
-pub use engine::output_at;
 pub use engine::output_of;
 pub use engine::sum_of;
 pub use runs::run;

@@ -8,8 +8,7 @@ use borrow.Author.Tests.{not-true, not-false}
 use Rattle.design.specs.Reading.{meaning}
 use Rattle.design.specs.Layout.{Describes}
 use Rattle.design.proofs.Answered.{described, refuses}
-use Rattle.design.proofs.StageLists.{lists-length}
-use Rattle.threshold.proofs.Described.{stages-length}
+use Rattle.design.proofs.StageLists.{stages-length, lists-length}
 use Rattle.threshold.proofs.Running.{Sent, sent-start, sent-fits, sent-next, sent-end, unfit-end, running-refused}
 use Rattle.threshold.proofs.runs.run.Statement.{statement}
 use Rattle.threshold.proofs.runs.run.Tie as tie
