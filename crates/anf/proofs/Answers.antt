@@ -7,7 +7,7 @@ use native.Mathlib.Omega.{arith}
 use lib.Dec.{eqb, ltb}
 use lib.ListN.{length, getD, take, drop}
 use lib.Seq.{ext-getD, take-at}
-use borrow.Author.Tests.{lt-ltb, le-ltb, eq-eqb, ne-eqb, ltb-false, eqb-true, not-false}
+use borrow.Author.Tests.{lt-ltb, le-ltb, eq-eqb, ne-eqb, ltb-false, eqb-true, not-true, not-false}
 use Rattle.anf.specs.Tests.{pick, tabulate}
 use Rattle.anf.specs.NormalForm.{subsetSum, degree}
 use Rattle.anf.specs.Tables.{entriesBelow, wordsDegree}
@@ -21,54 +21,60 @@ pub sumAt-subsetSum : (m : ℕ) (t : List ℕ) (u : ℕ) → length t ≡ 2 ^ m 
 unfolding subsetSum sumAt
 sumAt-subsetSum m t u e = rw e refl
 
-module _ (m : ℕ) (t out : List ℕ) where
-  abbrev pub Answered : ℕ → List ℕ → Type 0
-  Answered r after = (r ≡ transformReason m t (length out)) × (after ≡ transformAfter m t out)
+-- the reason answered, and the output afterwards
+pub record Answered (m : ℕ) (t out : List ℕ) (r : ℕ) (after : List ℕ) : Type 0 where
+  pub reason : r ≡ transformReason m t (length out)
+  pub left : after ≡ transformAfter m t out
 
-  pub narrow : m < 1 → Answered 4 out
+pub answered : {m : ℕ} {t out : List ℕ} {r : ℕ} {after : List ℕ} → Answered m t out r after → (r ≡ transformReason m t (length out)) × (after ≡ transformAfter m t out)
+answered a = (a .reason, a .left)
+
+module _ (m : ℕ) (t out : List ℕ) where
+  pub narrow : m < 1 → Answered m t out 4 out
   unfolding transformReason transformAfter
-  narrow a = (simp (lt-ltb _ _ a), simp (lt-ltb _ _ a))
+  narrow a = record { reason = simp (lt-ltb _ _ a); left = simp (lt-ltb _ _ a) }
 
   module _ (a : 1 ≤ m) where
-    pub wide : greatestWidth < m → Answered 4 out
+    pub wide : greatestWidth < m → Answered m t out 4 out
     unfolding transformReason transformAfter
-    wide b = (simp (le-ltb _ _ a, lt-ltb _ _ b), simp (le-ltb _ _ a, lt-ltb _ _ b))
+    wide b = record { reason = simp (le-ltb _ _ a, lt-ltb _ _ b); left = simp (le-ltb _ _ a, lt-ltb _ _ b) }
 
     module _ (b : m ≤ greatestWidth) (n : ℕ) (e : n ≡ 2 ^ m) where
-      pub uneven : (length t ≡ n → ⊥) → Answered 3 out
+      pub uneven : (length t ≡ n → ⊥) → Answered m t out 3 out
       unfolding transformReason transformAfter
       uneven f =
           let g : length t ≡ 2 ^ m → ⊥ = λ h. f (h ∙ sym e) in
-          (simp (le-ltb _ _ a, le-ltb _ _ b, ne-eqb _ _ g), simp (le-ltb _ _ a, le-ltb _ _ b, ne-eqb _ _ g))
+          record { reason = simp (le-ltb _ _ a, le-ltb _ _ b, ne-eqb _ _ g); left = simp (le-ltb _ _ a, le-ltb _ _ b, ne-eqb _ _ g) }
 
-      module _ (l : length t ≡ n) where
-        pub large : entriesBelow t n ≡ false → Answered 5 out
+      module _ (l : length t ≡ n) (s : Bool) (es : s ≡ entriesBelow t n) where
+        pub large : not s ≡ true → Answered m t out 5 out
         unfolding transformReason transformAfter
         large f =
             let g : length t ≡ 2 ^ m = l ∙ e in
-            let h : entriesBelow t (2 ^ m) ≡ false = rw e at f in
-            (simp (le-ltb _ _ a, le-ltb _ _ b, eq-eqb _ _ g, h), simp (le-ltb _ _ a, le-ltb _ _ b, eq-eqb _ _ g, h))
+            let h : entriesBelow t (2 ^ m) ≡ false = ap (entriesBelow t) (sym e) ∙ sym es ∙ not-true s f in
+            record { reason = simp (le-ltb _ _ a, le-ltb _ _ b, eq-eqb _ _ g, h); left = simp (le-ltb _ _ a, le-ltb _ _ b, eq-eqb _ _ g, h) }
 
-        module _ (s : entriesBelow t n ≡ true) where
-          pub short : length out < n → Answered 17 out
+        module _ (y : not s ≡ false) where
+          pub short : length out < n → Answered m t out 17 out
           unfolding transformReason transformAfter
           short f =
               let g : length t ≡ 2 ^ m = l ∙ e in
-              let h : entriesBelow t (2 ^ m) ≡ true = rw e at s in
+              let h : entriesBelow t (2 ^ m) ≡ true = ap (entriesBelow t) (sym e) ∙ sym es ∙ not-false s y in
               let k : length out < 2 ^ m = rw e at f in
-              (simp (le-ltb _ _ a, le-ltb _ _ b, eq-eqb _ _ g, h, lt-ltb _ _ k), simp (le-ltb _ _ a, le-ltb _ _ b, eq-eqb _ _ g, h, lt-ltb _ _ k))
+              record { reason = simp (le-ltb _ _ a, le-ltb _ _ b, eq-eqb _ _ g, h, lt-ltb _ _ k); left = simp (le-ltb _ _ a, le-ltb _ _ b, eq-eqb _ _ g, h, lt-ltb _ _ k) }
 
-          pub done : n ≤ length out → (after : List ℕ) → after ≡ tabulate n (sumAt t) ++ drop n out → Answered 0 after
+          pub done : n ≤ length out → (after : List ℕ) → after ≡ tabulate n (sumAt t) ++ drop n out → Answered m t out 0 after
           unfolding transformReason transformAfter
           done f after d =
               let g : length t ≡ 2 ^ m = l ∙ e in
-              let h : entriesBelow t (2 ^ m) ≡ true = rw e at s in
+              let h : entriesBelow t (2 ^ m) ≡ true = ap (entriesBelow t) (sym e) ∙ sym es ∙ not-false s y in
               let k : 2 ^ m ≤ length out = rw e at f in
               let q : tabulate n (sumAt t) ++ drop n out ≡ transformed m t ++ drop (2 ^ m) out =
-              rw e (ap (λ (x : List ℕ). x ++ drop (2 ^ m) out) (tabulate-congr (2 ^ m) (sumAt t) (subsetSum m (λ v. getD t v 0)) (λ u p. sumAt-subsetSum m t u g))) in (
-                simp (le-ltb _ _ a, le-ltb _ _ b, eq-eqb _ _ g, h, le-ltb _ _ k),
-                d ∙ q ∙ simp (le-ltb _ _ a, le-ltb _ _ b, eq-eqb _ _ g, h, le-ltb _ _ k),
-              )
+              rw e (ap (λ (x : List ℕ). x ++ drop (2 ^ m) out) (tabulate-congr (2 ^ m) (sumAt t) (subsetSum m (λ v. getD t v 0)) (λ u p. sumAt-subsetSum m t u g))) in
+              record {
+                reason = simp (le-ltb _ _ a, le-ltb _ _ b, eq-eqb _ _ g, h, le-ltb _ _ k);
+                left = d ∙ q ∙ simp (le-ltb _ _ a, le-ltb _ _ b, eq-eqb _ _ g, h, le-ltb _ _ k);
+              }
 
 -- ---- what is accepted, and that the passages undo each other
 
@@ -104,9 +110,9 @@ pub accepted-answer : (m : ℕ) (input output : List ℕ) → Accepted m input (
     → (transformReason m input (length output) ≡ 0) × (transformAfter m input output ≡ transformed m input ++ drop (2 ^ m) output)
 accepted-answer m input output a =
     let s = sumAt-all in
-    let w = done m input output (a .least) (a .most) (2 ^ m) refl (a .size) (a .below) (a .room-enough) (transformed m input ++ drop (2 ^ m) output)
+    let w = done m input output (a .least) (a .most) (2 ^ m) refl (a .size) true (sym (a .below)) refl (a .room-enough) (transformed m input ++ drop (2 ^ m) output)
     (ap (λ (x : List ℕ). x ++ drop (2 ^ m) output) s) in
-    (sym (w .0), sym (w .1))
+    (sym (w .reason), sym (w .left))
   where
     sumAt-all : transformed m input ≡ tabulate (2 ^ m) (sumAt input)
     sumAt-all =

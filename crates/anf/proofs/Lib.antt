@@ -10,4 +10,5 @@ pub mod Passing
 pub mod Degree
 pub mod Answers
 pub mod Tables
+pub mod Turning
 pub mod Bench

@@ -12,6 +12,10 @@ use Rattle.anf.specs.NormalForm.{largest}
 unfoldable pub entriesBelow : List ℕ → ℕ → Bool
 entriesBelow t bound = all (length t) (λ x. ltb (getD t x 0) bound)
 
+-- the entry at i stands at an index below i too
+unfoldable pub standsBelow : List ℕ → ℕ → Bool
+standsBelow t i = any i (λ y. eqb (getD t y 0) (getD t i 0))
+
 -- some two of the first n entries are equal
 unfoldable pub repeats : ℕ → List ℕ → Bool
 repeats n t = any n (λ x. any x (λ y. eqb (getD t y 0) (getD t x 0)))

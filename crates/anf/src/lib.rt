@@ -4,9 +4,10 @@ ghost use mathlib.Core.List.{_++_};
 ghost use Prim.Native.Nat.{_^_, _<_, _≤_, max};
 ghost use lib.Dec.{eqb};
 ghost use lib.Count.{ones};
-ghost use lib.ListN.{length, getD, drop};
-ghost use Rattle.anf.specs.Tests.{pick, any, tabulate};
-ghost use Rattle.anf.specs.Tables.{entriesBelow, repeats, wordsDegree};
+ghost use lib.ListN.{length, drop};
+ghost use Rattle.anf.specs.Tests.{pick, tabulate};
+ghost use Rattle.anf.specs.NormalForm.{subset};
+ghost use Rattle.anf.specs.Tables.{entriesBelow, standsBelow, repeats, wordsDegree};
 ghost use Rattle.anf.specs.Transform.{sumAt, transformReason, transformAfter};
 
 // The greatest width of a table.
@@ -51,7 +52,7 @@ pub fn repeats(table: &[u8]) -> bool
 // Whether the entry at i stands at an index below i too.
 fn stands_below(table: &[u8], i: usize) -> bool
     requires { ⌜ i < length (now table) ⌝ }
-    ensures { λ r. ⌜ r ≡ any i (λ y. eqb (getD (now (table .entry)) y 0) (getD (now (table .entry)) i 0)) ⌝ }
+    ensures { λ r. ⌜ r ≡ standsBelow (now (table .entry)) i ⌝ }
 {
     let entry = table[i];
     let mut y: usize = 0;
@@ -95,6 +96,16 @@ fn larger(a: usize, b: usize) -> usize
     if a < b { b } else { a }
 }
 
+// The word at the set v, or 0 where v is no subset of u.
+fn kept(word: u8, v: usize, u: usize) -> u8
+    ensures { λ r. ⌜ r ≡ pick (subset v u) word 0 ⌝ }
+{
+    if v & u == v {
+        return word;
+    }
+    0
+}
+
 // The sum of the entries at all subsets of u.
 fn subset_sum(table: &[u8], u: usize) -> u8
     ensures { λ r. ⌜ r ≡ sumAt (now (table .entry)) u ⌝ }
@@ -102,9 +113,7 @@ fn subset_sum(table: &[u8], u: usize) -> u8
     let mut sum: u8 = 0;
     let mut v: usize = 0;
     while v < table.len() {
-        if v & u == v {
-            sum = sum ^ table[v];
-        }
+        sum = sum ^ kept(table[v], v, u);
         v += 1;
     }
     sum

@@ -4,15 +4,15 @@ use mathlib.Core.Path.{_≡_, refl, sym, ap, _∙_, subst}
 use mathlib.Core.List.{List, _++_}
 use mathlib.Core.Bool.{Bool, true, false, _||_}
 use mathlib.Core.Logic.{_≢_}
-use Prim.Native.Nat.{ℕ, zero, suc, _+_, _-_, _/_, _%_, _^_, _<_, _≤_}
-use native.Mathlib.Nat.{div-self, zero-div, div-eq-of-lt, mul-mod-left, pow-suc, mod-lt, zero-lt-suc}
+use Prim.Native.Nat.{ℕ, zero, suc, _+_, _-_, _*_, _/_, _%_, _^_, _<_, _≤_}
+use native.Mathlib.Nat.{div-self, zero-div, div-eq-of-lt, mul-mod-left, pow-suc, mod-lt, zero-lt-suc, one-mul}
 use native.Mathlib.Decide.{ℕ-discrete, decLt}
 use native.Mathlib.Omega.{arith}
-use lib.Dec.{eqb}
+use lib.Dec.{eqb, lit<}
 use lib.ListN.{length, getD, set, drop, replicate, length-set, List·getD-append, getD-replicate, length-replicate}
 use lib.Seq.{getD-set-same, getD-set-other, drop-set-lt, drop-at}
 use lib.Bits.{bitOr, or-shr, or-mod, or-zero-r}
-use lib.Pow.{pow-pos, pow-lt, pow-add, shl-shr}
+use lib.Pow.{pow-pos, pow-lt, pow-add, shl-shr, shl-exact}
 use borrow.Author.Tests.{eq-eqb, ne-eqb, eqb-true}
 use Rattle.anf.specs.Tests.{any}
 use Rattle.anf.proofs.Testing.{or-right, any-at, any-some, any-step, not-true-false, clash}
@@ -89,6 +89,11 @@ mark-marks l y z h = go (ℕ-discrete y z)
     go (yes e) = subst (λ (z : ℕ). marked (mark l y) z ≡ (marked l z || eqb y z)) e (mark-same l y h ∙ sym (or-right (marked l y) (eqb y y) (eq-eqb y y refl)))
     go (no f) = mark-other l y z h f ∙ sym (or-false-right (marked l z) (eqb y z) (ne-eqb y z f))
 
+-- the byte that `mark_one` stores: the shift loses no bit
+pub mark-stored : (l : List ℕ) (y : ℕ) → set l (y / 8) (bitOr (getD l (y / 8) 0) (1 * 2 ^ (y % 8) % 2 ^ 8)) ≡ mark l y
+unfolding mark
+mark-stored l y = rw (shl-exact 1 (y % 8) 8 (lit< tt) (omega arith), one-mul) refl
+
 pub mark-length : (l : List ℕ) (y : ℕ) → length (mark l y) ≡ length l
 unfolding mark
 mark-length l y = simp length-set
@@ -127,26 +132,48 @@ pub run-start : (n : ℕ) (g : ℕ → ℕ) (l : List ℕ) → Clear n l → Run
 unfolding repeatsBy any
 run-start n g l k = record { most = omega arith; long = refl; rest = refl; once = refl; met = k }
 
-module _ (n : ℕ) (g : ℕ → ℕ) (l₀ l : List ℕ) (i : ℕ) (whole : n % 8 ≡ 0) (room : n / 8 ≤ length l₀) (r : Run n g l₀ l i) (more : i < n) (below : g i < n) where
-  -- a mark that is met is an earlier output
-  pub run-found : marked l (g i) ≡ true → repeatsBy n g ≡ true
-  unfolding repeatsBy
-  run-found h = any-at n _ i more (sym (r .met (g i) below) ∙ h)
+-- 2^e is a multiple of 8
+pub eights : (e : ℕ) → 3 ≤ e → 2 ^ e % 8 ≡ 0
+eights e h =
+    let q : e ≡ e - 3 + 3 = omega arith in
+    ap (λ (x : ℕ). 2 ^ x % 8) q ∙ ap (λ (x : ℕ). x % 8) (pow-add 2 (e - 3) 3) ∙ mul-mod-left (2 ^ (e - 3)) 8
 
-  pub run-rest : drop (n / 8) (mark l (g i)) ≡ drop (n / 8) l₀
-  run-rest = mark-drop l (n / 8) (g i) (omega arith) ∙ r .rest
+-- `mark_all`, at each way out and for a turn: k tries are made, y is the output of try i, q whether it was marked before, l₁ the marks with it
+module _ (e : ℕ) (g : ℕ → ℕ) (l₀ l : List ℕ) (i : ℕ) (r : Run (2 ^ e) g l₀ l i) (k : ℕ) where
+  module _ (more : i < k) (ek : k ≡ 2 ^ e) (y : ℕ) (below : y < 2 ^ e) (here : y ≡ g i) (low : 3 ≤ e) (room : 2 ^ e / 8 ≤ length l₀) where
+    within : y / 8 < 2 ^ e / 8
+    within = let w = eights e low in omega arith
 
-  pub run-step : marked l (g i) ≡ false → Run n g l₀ (mark l (g i)) (i + 1)
-  unfolding repeatsBy
-  run-step h =
-      let h₀ = r .long in
-      record {
-        most = omega arith;
-        long = mark-length l (g i) ∙ r .long;
-        rest = run-rest;
-        once = rw (any-step, r .once, ← (r .met (g i) below)) h;
-        met = λ y b. mark-marks l (g i) y (omega arith) ∙ ap (λ (a : Bool). a || eqb (g i) y) (r .met y b) ∙ sym (any-step i (λ j. eqb (g j) y));
-      }
+    seen : marked l y ≡ any i (λ j. eqb (g j) (g i))
+    seen = r .met y below ∙ ap (λ (z : ℕ). any i (λ j. eqb (g j) z)) here
+
+    -- the mark is inside the workspace
+    pub run-inside : y / 8 < length l
+    run-inside = let w = within in let h = r .long in omega arith
+
+    -- a mark that is met is an earlier output
+    pub run-found : (q : Bool) → q ≡ true → q ≡ marked l y → true ≡ repeatsBy (2 ^ e) g
+    unfolding repeatsBy
+    run-found q h m = sym (any-at (2 ^ e) _ i (omega arith) (sym seen ∙ sym m ∙ h))
+
+    pub run-rest : (l₁ : List ℕ) → l₁ ≡ mark l y → drop (2 ^ e / 8) l₁ ≡ drop (2 ^ e / 8) l₀
+    run-rest l₁ m = ap (drop (2 ^ e / 8)) m ∙ mark-drop l (2 ^ e / 8) y within ∙ r .rest
+
+    pub run-step : (q : Bool) → q ≡ false → q ≡ marked l y → (l₁ : List ℕ) → l₁ ≡ mark l y → Run (2 ^ e) g l₀ l₁ (i + 1)
+    unfolding repeatsBy
+    run-step q h m l₁ is = record {
+      most = omega arith;
+      long = ap length is ∙ mark-length l y ∙ r .long;
+      rest = run-rest l₁ is;
+      once = rw (any-step, r .once, ← seen) (sym m ∙ h);
+      met = λ z b.
+          ap (λ (w : List ℕ). marked w z) is ∙ mark-marks l y z run-inside ∙ ap (λ (a : Bool). a || eqb y z) (r .met z b)
+          ∙ ap (λ (w : ℕ). any i (λ j. eqb (g j) z) || eqb w z) here ∙ sym (any-step i (λ j. eqb (g j) z));
+    }
+
+  module _ (less : k ≤ i) (ek : k ≡ 2 ^ e) where
+    pub run-none : false ≡ repeatsBy (2 ^ e) g
+    run-none = let h = r .most in let z : i ≡ 2 ^ e = omega arith in sym (rw z at (r .once))
 
 -- ---- what `repeatsBy` says
 

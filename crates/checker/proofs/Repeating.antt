@@ -1,15 +1,15 @@
 -- The search for the first table that repeats an entry, over the design that a file means.
 -- Assumes nothing.
-use mathlib.Core.Path.{_≡_, sym, ap, _∙_}
+use mathlib.Core.Path.{_≡_, refl, sym, ap, _∙_}
 use mathlib.Core.List.{List}
 use mathlib.Core.Logic.{⊎-elim}
 use mathlib.Core.Bool.{Bool, true, false}
-use Prim.Native.Nat.{ℕ, _^_, _<_, _≤_}
+use Prim.Native.Nat.{ℕ, _+_, _^_, _<_, _≤_}
 use native.Mathlib.Omega.{arith}
 use lib.ListN.{length}
 use Rattle.anf.specs.Tests.{any, first}
 use Rattle.anf.specs.Tables.{repeats}
-use Rattle.anf.proofs.Testing.{first-found, first-none, first-is, any-none, true-or-false, not-true-false}
+use Rattle.anf.proofs.Testing.{first-found, first-none, first-is, any-none, any-none-more, true-or-false, not-true-false}
 use Rattle.design.specs.Design.{Design, stageOf}
 use Rattle.design.specs.Reading.{meaning}
 use Rattle.design.specs.Layout.{Describes}
@@ -49,16 +49,31 @@ module _ (f : List ℕ) (l : Layout) (d : Describes f l) where
   pub table-size : (t : ℕ) → t < l .head .k → length (stageOf (meaning f) t .table) ≡ 2 ^ meaning f .m
   table-size t h = described d .formed .stage t (let e = described d .k in omega arith) .table .size
 
-  pub table-repeats : (t : ℕ) → t < l .head .k → (b : List ℕ) → b ≡ stageOf (meaning f) t .table → repeats (length b) b ≡ tableRepeats (meaning f) t
-  table-repeats t h b e =
-      ap (λ (x : List ℕ). repeats (length x) x) e ∙ ap (λ (n : ℕ). repeats n (stageOf (meaning f) t .table)) (table-size t h)
+-- ---- `first_repeating`: no table of the stages before t repeats an entry; b is the table of stage t, r whether it does
 
-  pub repeating-found : (t : ℕ) → t < l .head .k → any t (tableRepeats (meaning f)) ≡ false → tableRepeats (meaning f) t ≡ true → t ≡ firstRepeating (meaning f)
-  unfolding firstRepeating
-  repeating-found t h a r = sym (first-found _ (tableRepeats (meaning f)) t (let e = described d .k in omega arith) a r)
+unfoldable pub NoneRepeats : List ℕ → ℕ → Type 0
+NoneRepeats f t = any t (tableRepeats (meaning f)) ≡ false
 
-  pub repeating-none : (t : ℕ) → t ≡ l .head .k → any t (tableRepeats (meaning f)) ≡ false → t ≡ firstRepeating (meaning f)
-  unfolding firstRepeating
-  repeating-none t e a =
-      let q : t ≡ meaning f .k = e ∙ described d .k in
-      q ∙ sym (first-none (meaning f .k) (tableRepeats (meaning f)) (rw q at a))
+pub none-yet : (f : List ℕ) → NoneRepeats f 0
+unfolding NoneRepeats any
+none-yet f = refl
+
+module _ (f : List ℕ) (l : Layout) (t : ℕ) (so : NoneRepeats f t) where
+  module _ (h : t < l .head .k) (d : Describes f l) (b : List ℕ) (e : b ≡ stageOf (meaning f) t .table) (r : Bool) (er : r ≡ repeats (length b) b) where
+    this : tableRepeats (meaning f) t ≡ r
+    this = sym (er ∙ ap (λ (x : List ℕ). repeats (length x) x) e ∙ ap (λ (n : ℕ). repeats n (stageOf (meaning f) t .table)) (table-size f l d t h))
+
+    pub repeating-found : r ≡ true → t ≡ firstRepeating (meaning f)
+    unfolding NoneRepeats firstRepeating
+    repeating-found q = sym (first-found _ (tableRepeats (meaning f)) t (let k = described d .k in omega arith) so (this ∙ q))
+
+    pub repeating-more : r ≡ false → NoneRepeats f (t + 1)
+    unfolding NoneRepeats
+    repeating-more q = any-none-more t (tableRepeats (meaning f)) so (this ∙ q)
+
+  pub repeating-none : t ≤ l .head .k → l .head .k ≤ t → Describes f l → t ≡ firstRepeating (meaning f)
+  unfolding NoneRepeats firstRepeating
+  repeating-none up low d =
+      let k = described d .k in
+      let q : t ≡ meaning f .k = omega arith in
+      q ∙ sym (first-none (meaning f .k) (tableRepeats (meaning f)) (rw q at so))

@@ -1,9 +1,9 @@
 -- Marks, by which the checker finds uniformity: one bit for each sharing, eight to a byte, lowest first.
-use Prim.Native.Nat.{ℕ, _*_, _/_, _%_, _^_, _<_}
+use Prim.Native.Nat.{ℕ, _*_, _/_, _%_, _^_, _<_, _≤_}
 use mathlib.Core.Path.{_≡_}
 use mathlib.Core.List.{List, _++_}
 use mathlib.Core.Bool.{Bool, false, not}
-use lib.ListN.{getD, set, drop, replicate}
+use lib.ListN.{length, getD, set, drop, replicate}
 use lib.Dec.{eqb}
 use lib.Bits.{bitAnd, bitOr}
 use Rattle.anf.specs.Tests.{any}
@@ -35,6 +35,10 @@ sharingsOf l = 2 ^ (l .head .m * l .head .s)
 
 abbrev pub marksOf : Layout → ℕ
 marksOf l = sharingsOf l / 8
+
+-- a workspace with room for the marks, all of them zero
+abbrev pub Cleared : Layout → List ℕ → Type 0
+Cleared l ws = (marksOf l ≤ length ws) × (zeroed (marksOf l) ws ≡ ws)
 
 -- a term names a variable of the group
 abbrev pub named : ℕ → ℕ → Bool

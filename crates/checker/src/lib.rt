@@ -6,20 +6,20 @@ mod tables; // tables.rt: the chain of tables, and tables that repeat an entry
 use design::Layout;
 use marks::clear;
 use stages::correct_stage;
+use stages::mark_bytes;
 use stages::meets_twice;
 use stages::offending;
 use tables::chain_is_box;
 use tables::first_repeating;
 ghost use mathlib.Core.Path.{_≡_};
-ghost use mathlib.Core.Bool.{false};
-ghost use Prim.Native.Nat.{_+_, _*_, _^_, _≤_, _<_};
+ghost use Prim.Native.Nat.{_+_, _≤_, _<_};
 ghost use lib.ListN.{length};
-ghost use Rattle.anf.specs.Tables.{repeats};
 ghost use Rattle.design.specs.Design.{stageOf};
 ghost use Rattle.design.specs.Reading.{meaning};
 ghost use Rattle.design.specs.Layout.{Describes};
-ghost use Rattle.checker.specs.Verdict.{answer, firstRepeating, stageVerdict, judgeStages, verdict, workspaceAfter};
-ghost use Rattle.checker.specs.Marks.{zeroed, marksOf};
+ghost use Rattle.checker.specs.Verdict.{answer, firstRepeating, stageVerdict, judgeStages, judged, verdict, workspaceAfter};
+ghost use Rattle.checker.specs.Parts.{judgedChain, workspaceOf};
+ghost use Rattle.checker.specs.Marks.{Cleared};
 
 // Reason, place and component, as the paper numbers them.
 #[repr(C)]
@@ -41,7 +41,7 @@ fn give(reason: usize, place: usize, component: usize) -> Verdict
 
 // What stage `t`, counted from 0, answers: 12, 13 or 14, and 0 where it has no fault. The marks are zero before and after.
 fn judge_stage(file: &[u8], layout: Layout, t: usize, workspace: &mut [u8]) -> Verdict
-    requires { ⌜ Describes (now file) layout × (t < layout .head .k) × (marksOf layout ≤ length (now workspace)) × (zeroed (marksOf layout) (now workspace) ≡ now workspace) × (layout .head .k ≤ firstRepeating (meaning (now file))) ⌝ }
+    requires { ⌜ Describes (now file) layout × (t < layout .head .k) × Cleared layout (now workspace) × (layout .head .k ≤ firstRepeating (meaning (now file))) ⌝ }
     ensures { λ r. ⌜ r ≡ stageVerdict (meaning (now (file .entry))) (t + 1) (stageOf (meaning (now (file .entry))) t) (answer 0 0 0) ⌝ }
     ensures { λ _. ⌜ now (workspace .exit) ≡ now (workspace .entry) ⌝ }
 {
@@ -60,7 +60,7 @@ fn judge_stage(file: &[u8], layout: Layout, t: usize, workspace: &mut [u8]) -> V
 
 // The stages, each judged.
 fn judge_stages(file: &[u8], layout: Layout, workspace: &mut [u8]) -> Verdict
-    requires { ⌜ Describes (now file) layout × (marksOf layout ≤ length (now workspace)) × (zeroed (marksOf layout) (now workspace) ≡ now workspace) × (layout .head .k ≤ firstRepeating (meaning (now file))) ⌝ }
+    requires { ⌜ Describes (now file) layout × Cleared layout (now workspace) × (layout .head .k ≤ firstRepeating (meaning (now file))) ⌝ }
     ensures { λ r. ⌜ r ≡ judgeStages (meaning (now (file .entry))) 1 (meaning (now (file .entry)) .stages) ⌝ }
     ensures { λ _. ⌜ now (workspace .exit) ≡ now (workspace .entry) ⌝ }
 {
@@ -76,6 +76,39 @@ fn judge_stages(file: &[u8], layout: Layout, workspace: &mut [u8]) -> Verdict
     give(0, k, 0)
 }
 
+// The chain of tables, the tables and the stages: 10 and above, or 0. The marks are zero before and after.
+fn judge_chain(file: &[u8], layout: Layout, workspace: &mut [u8]) -> Verdict
+    requires { ⌜ Describes (now file) layout × Cleared layout (now workspace) ⌝ }
+    ensures { λ r. ⌜ r ≡ judgedChain (meaning (now (file .entry))) ⌝ }
+    ensures { λ _. ⌜ now (workspace .exit) ≡ now (workspace .entry) ⌝ }
+{
+    if !chain_is_box(file, layout) {
+        return give(10, 0, 0);
+    }
+    let t = first_repeating(file, layout);
+    if t < layout.head.k {
+        return give(11, t + 1, 0);
+    }
+    judge_stages(file, layout, workspace)
+}
+
+// The design of a file that reads: 8 and above, or 0.
+fn judge_design(file: &[u8], layout: Layout, workspace: &mut [u8]) -> Verdict
+    requires { ⌜ Describes (now file) layout ⌝ }
+    ensures { λ r. ⌜ r ≡ judged (meaning (now (file .entry))) (length (now (workspace .entry))) ⌝ }
+    ensures { λ _. ⌜ now (workspace .exit) ≡ workspaceOf (meaning (now (file .entry))) (now (workspace .entry)) ⌝ }
+{
+    if anf::repeats(design::box_table(file, layout)) {
+        return give(8, 0, 0);
+    }
+    let n = mark_bytes(layout);
+    if workspace.len() < n {
+        return give(9, 0, 0);
+    }
+    clear(workspace, n);
+    judge_chain(file, layout, workspace)
+}
+
 // The verdict on a file, with a lent workspace.
 pub fn judge(file: &[u8], workspace: &mut [u8]) -> Verdict
     ensures { λ r. ⌜ r ≡ verdict (now (file .entry)) (length (now (workspace .entry))) ⌝ }
@@ -85,20 +118,5 @@ pub fn judge(file: &[u8], workspace: &mut [u8]) -> Verdict
     if layout.reason != 0 {
         return give(layout.reason, layout.place, 0);
     }
-    if anf::repeats(design::box_table(file, layout)) {
-        return give(8, 0, 0);
-    }
-    let n = anf::points(layout.head.m * layout.head.s) / 8;
-    if workspace.len() < n {
-        return give(9, 0, 0);
-    }
-    clear(workspace, n);
-    if !chain_is_box(file, layout) {
-        return give(10, 0, 0);
-    }
-    let t = first_repeating(file, layout);
-    if t < layout.head.k {
-        return give(11, t + 1, 0);
-    }
-    judge_stages(file, layout, workspace)
+    judge_design(file, layout, workspace)
 }

@@ -3,7 +3,7 @@ use super::marks::clear;
 use super::marks::mark_one;
 use design::Layout;
 ghost use mathlib.Core.Path.{_≡_};
-ghost use Prim.Native.Nat.{_*_, _^_, _≤_, _<_};
+ghost use Prim.Native.Nat.{_*_, _/_, _^_, _≤_, _<_};
 ghost use lib.Dec.{eqb};
 ghost use lib.ListN.{length, getD, drop};
 ghost use Rattle.anf.specs.Tests.{first};
@@ -11,8 +11,10 @@ ghost use Rattle.design.specs.Limits.{greatestWidth, greatestShares, greatestSh
 ghost use Rattle.design.specs.Design.{stageOf};
 ghost use Rattle.design.specs.Reading.{meaning};
 ghost use Rattle.design.specs.Layout.{Describes};
+ghost use Rattle.design.specs.StageLists.{listsOf};
 ghost use Rattle.threshold.specs.Sharing.{sum, variables};
 ghost use Rattle.threshold.specs.Stages.{output, correct, readsOwn};
+ghost use Rattle.checker.specs.Parts.{Standing, agreeing};
 ghost use Rattle.checker.specs.Marks.{Clear, repeatsBy, zeroed, sharingsOf, marksOf, named};
 
 // Whether the output sharing `y` sums to what the table makes of the sum of the sharing `x`.
@@ -24,35 +26,49 @@ fn agrees(table: &[u8], m: usize, s: usize, x: u32, y: u32) -> bool
     threshold::sum_of(y, m, s) == table[secret] as u32
 }
 
-// How many sharings there are.
-fn sharings(layout: Layout) -> u32
-    requires { ⌜ layout .head .m * layout .head .s ≤ greatestShareBits ⌝ }
-    ensures { λ r. ⌜ (r ≡ sharingsOf layout) × (r < 4294967296) ⌝ }
+// How many sharings of so many share bits there are.
+fn sharings(bits: usize) -> u32
+    requires { ⌜ bits ≤ greatestShareBits ⌝ }
+    ensures { λ r. ⌜ (r ≡ 2 ^ bits) × (r < 4294967296) ⌝ }
 {
-    anf::points(layout.head.m * layout.head.s) as u32
+    anf::points(bits) as u32
 }
 
-// Whether stage `t` is correct: all sharings are tried, up to the first that is wrong.
-pub fn correct_stage(file: &[u8], layout: Layout, t: usize) -> bool
-    requires { ⌜ Describes (now file) layout × (t < layout .head .k) ⌝ }
-    ensures { λ r. ⌜ r ≡ correct (layout .head .m) (layout .head .s) (stageOf (meaning (now (file .entry))) t) ⌝ }
+// How many bytes hold a mark for each sharing.
+pub fn mark_bytes(layout: Layout) -> usize
+    requires { ⌜ layout .head .m * layout .head .s ≤ greatestShareBits ⌝ }
+    ensures { λ r. ⌜ r ≡ marksOf layout ⌝ }
 {
-    let m = layout.head.m;
-    let s = layout.head.s;
-    let tries = sharings(layout);
-    let table = design::table(file, layout, t);
-    let starts = layout.starts;
-    let first = design::number(layout.head, t, 1);
-    let bits = layout.head.m * layout.head.s;
+    anf::points(layout.head.m * layout.head.s) / 8
+}
+
+// Whether the lists that start where `starts` has it from `first` on agree with the table: all sharings are tried, up to the first that is wrong.
+fn all_agree(file: &[u8], starts: &[usize], first: usize, table: &[u8], m: usize, s: usize) -> bool
+    requires { ⌜ Standing (now file) (now starts) first (m * s) × (m ≤ greatestWidth) × (length (now table) ≡ 2 ^ m) ⌝ }
+    ensures { λ r. ⌜ r ≡ agreeing m s (listsOf (now (file .entry)) (now (starts .entry)) first (m * s)) (now (table .entry)) (2 ^ (m * s)) ⌝ }
+{
+    let bits = m * s;
+    let tries = sharings(bits);
     let mut x: u32 = 0;
     while x < tries {
-        let y = threshold::output_of(file, &starts, first, bits, x);
+        let y = threshold::output_of(file, starts, first, bits, x);
         if !agrees(table, m, s, x, y) {
             return false;
         }
         x += 1;
     }
     true
+}
+
+// Whether stage `t` is correct.
+pub fn correct_stage(file: &[u8], layout: Layout, t: usize) -> bool
+    requires { ⌜ Describes (now file) layout × (t < layout .head .k) ⌝ }
+    ensures { λ r. ⌜ r ≡ correct (layout .head .m) (layout .head .s) (stageOf (meaning (now (file .entry))) t) ⌝ }
+{
+    let table = design::table(file, layout, t);
+    let starts = layout.starts;
+    let first = design::number(layout.head, t, 1);
+    all_agree(file, &starts, first, table, layout.head.m, layout.head.s)
 }
 
 // The variables of share `j`.
@@ -101,17 +117,15 @@ pub fn offending(file: &[u8], layout: Layout, t: usize) -> usize
 }
 
 // Marks the output of each sharing, up to the first that is marked already, and answers whether there is one.
-fn mark_all(file: &[u8], layout: Layout, t: usize, workspace: &mut [u8]) -> bool
-    requires { ⌜ Describes (now file) layout × (t < layout .head .k) × (marksOf layout ≤ length (now workspace)) × Clear (sharingsOf layout) (now workspace) ⌝ }
-    ensures { λ r. ⌜ (r ≡ repeatsBy (sharingsOf layout) (output (stageOf (meaning (now (file .entry))) t .lists))) × (drop (marksOf layout) (now (workspace .exit)) ≡ drop (marksOf layout) (now (workspace .entry))) ⌝ }
+fn mark_all(file: &[u8], starts: &[usize], first: usize, count: usize, workspace: &mut [u8]) -> bool
+    requires { ⌜ Standing (now file) (now starts) first count × (3 ≤ count) × (2 ^ count / 8 ≤ length (now workspace)) × Clear (2 ^ count) (now workspace) ⌝ }
+    ensures { λ r. ⌜ r ≡ repeatsBy (2 ^ count) (output (listsOf (now (file .entry)) (now (starts .entry)) first count)) ⌝ }
+    ensures { λ _. ⌜ drop (2 ^ count / 8) (now (workspace .exit)) ≡ drop (2 ^ count / 8) (now (workspace .entry)) ⌝ }
 {
-    let n = sharings(layout);
-    let starts = layout.starts;
-    let first = design::number(layout.head, t, 1);
-    let count = layout.head.m * layout.head.s;
+    let n = sharings(count);
     let mut x: u32 = 0;
     while x < n {
-        let y = threshold::output_of(file, &starts, first, count, x);
+        let y = threshold::output_of(file, starts, first, count, x);
         if mark_one(workspace, y as usize) {
             return true;
         }
@@ -123,11 +137,15 @@ fn mark_all(file: &[u8], layout: Layout, t: usize, workspace: &mut [u8]) -> bool
 // Whether two sharings give one output of stage `t`. The workspace that the marks take is zero afterwards.
 pub fn meets_twice(file: &[u8], layout: Layout, t: usize, workspace: &mut [u8]) -> bool
     requires { ⌜ Describes (now file) layout × (t < layout .head .k) × (marksOf layout ≤ length (now workspace)) ⌝ }
-    ensures { λ r. ⌜ (r ≡ repeatsBy (sharingsOf layout) (output (stageOf (meaning (now (file .entry))) t .lists))) × (now (workspace .exit) ≡ zeroed (marksOf layout) (now (workspace .entry))) ⌝ }
+    ensures { λ r. ⌜ r ≡ repeatsBy (sharingsOf layout) (output (stageOf (meaning (now (file .entry))) t .lists)) ⌝ }
+    ensures { λ _. ⌜ now (workspace .exit) ≡ zeroed (marksOf layout) (now (workspace .entry)) ⌝ }
 {
-    let n = (sharings(layout) / 8) as usize;
+    let starts = layout.starts;
+    let first = design::number(layout.head, t, 1);
+    let bits = layout.head.m * layout.head.s;
+    let n = mark_bytes(layout);
     clear(workspace, n);
-    let twice = mark_all(file, layout, t, workspace);
+    let twice = mark_all(file, &starts, first, bits, workspace);
     clear(workspace, n);
     twice
 }

@@ -1,12 +1,12 @@
 // The tables: their chain, and the first that repeats an entry. A table has at most 64 entries, 2 to the power of the greatest width.
 use design::Layout;
 ghost use mathlib.Core.Path.{_≡_};
-ghost use Prim.Native.Nat.{ℕ, _^_, _≤_, _<_};
+ghost use Prim.Native.Nat.{ℕ, _≤_, _<_};
 ghost use lib.ListN.{length, getD};
 ghost use Rattle.design.specs.Reading.{meaning};
 ghost use Rattle.design.specs.Layout.{Describes};
-ghost use Rattle.threshold.specs.Chain.{chained};
 ghost use Rattle.checker.specs.Verdict.{chainIsBox, firstRepeating};
+ghost use Rattle.checker.specs.Parts.{Composes};
 
 fn wide(x: u8) -> usize
     ensures { λ r. ⌜ r ≡ x ⌝ }
@@ -45,7 +45,7 @@ fn through(table: &[u8], n: usize, from: [u8; 64]) -> [u8; 64]
 // The table of the chain, in 64 bytes of its own: that of the first stage is applied first.
 fn composed(file: &[u8], layout: Layout) -> [u8; 64]
     requires { ⌜ Describes (now file) layout ⌝ }
-    ensures { λ r. ⌜ ((x : ℕ) → x < 2 ^ layout .head .m → getD r x 0 ≡ chained (meaning (now (file .entry)) .stages) x) ⌝ }
+    ensures { λ r. ⌜ Composes (meaning (now (file .entry))) (layout .head .m) r ⌝ }
 {
     let n = anf::points(layout.head.m);
     let k = layout.head.k;

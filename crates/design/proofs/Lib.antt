@@ -1,12 +1,17 @@
 -- Laws of the design file.
+pub mod Numbers
 pub mod Limits
+pub mod Heading
 pub mod Records
+pub mod Faults
 pub mod Walking
+pub mod Answering
 pub mod Reasons
 pub mod Found
 pub mod Flat
 pub mod Joined
 pub mod Written
+pub mod Taking
 pub mod TermBytes
 pub mod Overwriting
 pub mod Formed

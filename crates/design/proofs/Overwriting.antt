@@ -4,9 +4,9 @@ use Prim.Native.Nat.{ℕ, zero, suc, _+_, _*_, _≤_, _<_}
 use mathlib.Core.Path.{_≡_, refl, sym, ap, _∙_}
 use mathlib.Core.List.{List, [], _∷_, _++_, map, append-assoc, append-nil}
 use native.Mathlib.Omega.{arith}
-use native.Mathlib.Numerals.{add-one}
+use native.Mathlib.Numerals.{add-one, towards-suc}
 use native.Mathlib.Nat.{zero-add}
-use lib.ListN.{length, getD, set, take, drop, length-append}
+use lib.ListN.{length, getD, set, take, drop, length-append, length-set}
 use lib.Seq.{sets, sets-eq, paste, paste-zero, paste-suc, take-length, length-take-le, drop-drop, take-at, drop-at, take-append-seam, drop-append-seam, drop-append-add, length-paste}
 use Rattle.design.specs.Bytes.{termBytes, overwrite}
 use Rattle.anf.specs.Tests.{total}
@@ -15,19 +15,50 @@ use Rattle.design.specs.Design.{Stage, Design, noStage, stageOf}
 use Rattle.design.specs.Encode.{join, recordHead, aRecord, headBody, stageBytes, encode}
 use Rattle.design.proofs.TermBytes.{length-termBytes}
 
--- straight-line stores of four bytes
-pub overwrite-sets : (b l : List ℕ) (at : ℕ) → at + length b ≤ length l → sets l at b ≡ overwrite l at b
+-- straight-line stores
+overwrite-sets : (b l : List ℕ) (at : ℕ) → at + length b ≤ length l → sets l at b ≡ overwrite l at b
 unfolding overwrite
 overwrite-sets b l at h = sets-eq b l at h
 
+-- ---- four stores that follow one another, as `put_head` and `put_term` have them: o is the output, a, b, c, d are the bytes
+
+module _ (o : List ℕ) (at : ℕ) (h : at + 4 ≤ length o) (a b : ℕ) where
+  pub second-there : at + 1 < length (set o at a)
+  second-there = simp length-set (omega arith)
+
+  pub third-there : at + 2 < length (set (set o at a) (at + 1) b)
+  third-there = simp length-set (omega arith)
+
+  module _ (c : ℕ) where
+    pub fourth-there : at + 3 < length (set (set (set o at a) (at + 1) b) (at + 2) c)
+    fourth-there = simp length-set (omega arith)
+
+    pub four-put : (d : ℕ) → set (set (set (set o at a) (at + 1) b) (at + 2) c) (at + 3) d ≡ overwrite o at (a ∷ b ∷ c ∷ d ∷ [])
+    four-put d = simp towards-suc (overwrite-sets (a ∷ b ∷ c ∷ d ∷ []) o at (omega arith))
+
 -- a whole copy
-pub overwrite-paste : (l : List ℕ) (at : ℕ) (b : List ℕ) → paste l at b (length b) ≡ overwrite l at b
+overwrite-paste : (l : List ℕ) (at : ℕ) (b : List ℕ) → paste l at b (length b) ≡ overwrite l at b
 unfolding overwrite
 overwrite-paste l at b = rw (take-length b) refl
 
 -- a turn of the loop that copies
-pub paste-more : (d : List ℕ) (at : ℕ) (s : List ℕ) (j : ℕ) (o : List ℕ) → o ≡ paste d at s j → at + j < length d → j < length s → set o (at + j) (getD s j 0) ≡ paste d at s (j + 1)
+paste-more : (d : List ℕ) (at : ℕ) (s : List ℕ) (j : ℕ) (o : List ℕ) → o ≡ paste d at s j → at + j < length d → j < length s → set o (at + j) (getD s j 0) ≡ paste d at s (j + 1)
 paste-more d at s j o e h l = rw (add-one, e) (paste-suc d at s j 0 h l)
+
+-- ---- the loop of `put_bytes`: o is the output with the first i bytes of b copied over l from `at` on
+
+pub copied-none : (l b : List ℕ) (at : ℕ) → l ≡ paste l at b 0
+copied-none l b at = paste-zero l at b
+
+module _ (l b o : List ℕ) (at i : ℕ) where
+  pub copied-length : (x : ℕ) → length o ≡ length l → length (set o (at + i) x) ≡ length l
+  copied-length x e = length-set o (at + i) x ∙ e
+
+  pub copied-more : at + length b ≤ length l → i < length b → o ≡ paste l at b i → set o (at + i) (getD b i 0) ≡ paste l at b (i + 1)
+  copied-more h k e = paste-more l at b i o e (omega arith) k
+
+  pub copied-all : i ≤ length b → length b ≤ i → o ≡ paste l at b i → o ≡ overwrite l at b
+  copied-all h k e = let q : i ≡ length b = omega arith in rw q at e ∙ overwrite-paste l at b
 
 pub overwrite-length : (l : List ℕ) (at : ℕ) (b : List ℕ) → at + length b ≤ length l → length (overwrite l at b) ≡ length l
 overwrite-length l at b h = ap length (sym (overwrite-paste l at b)) ∙ length-paste l at b (length b) h (omega arith)

@@ -3,15 +3,19 @@ use mathlib.Core.Path.{_≡_, refl, sym, ap, ap₂, _∙_}
 use mathlib.Core.List.{List, [], _∷_}
 use Prim.Native.Nat.{ℕ, zero, suc, _+_, _*_, _/_, _%_, _^_, _<_, _≤_}
 use native.Mathlib.Numerals.{towards-suc, unary-clauses}
+use native.Mathlib.Nat.{mul-le-mul-right}
 use native.Mathlib.Omega.{arith}
 use lib.ListN.{length, getD, drop, length-drop}
 use lib.Seq.{drop-cons}
+use lib.Dec.{ltb}
+use mir.Syntax.{w64}
+use mir.Val.{Fits}
 use lib.Bits.{bitAnd, bitOr, bitXor, xor-self, xor-zero-r, or-add-and}
 use borrow.Author.Tests.{eq-eqb, ne-eqb}
 use Rattle.anf.proofs.Xor.{xor-cancel, xor-ac, bit-cases}
 use Rattle.anf.specs.Tests.{pick}
 use Rattle.anf.specs.NormalForm.{subset}
-use Rattle.anf.specs.Terms.{valueAt}
+use Rattle.anf.specs.Terms.{before, valueAt}
 use Rattle.design.specs.Bytes.{little, u32At, termBytes, terms}
 
 -- the terms from a place on
@@ -36,7 +40,7 @@ pub terms-end : (l : List ℕ) (at : ℕ) → length l < at + 4 → terms (drop 
 terms-end l at h = terms-short (drop at l) (simp length-drop (omega arith))
 
 -- how many terms bytes stand for
-pub terms-length : (l : List ℕ) → length (terms l) ≡ length l / 4
+terms-length : (l : List ℕ) → length (terms l) ≡ length l / 4
 unfolding terms
 terms-length [] = refl
 terms-length (a ∷ []) = refl
@@ -45,7 +49,7 @@ terms-length (a ∷ b ∷ c ∷ []) = refl
 terms-length (a ∷ b ∷ c ∷ d ∷ l) = let e = terms-length l in omega arith
 
 -- term j
-pub terms-at : (l : List ℕ) (j : ℕ) → j < length (terms l) → u32At l (4 * j) ≡ getD (terms l) j 0
+terms-at : (l : List ℕ) (j : ℕ) → j < length (terms l) → u32At l (4 * j) ≡ getD (terms l) j 0
 unfolding terms u32At
 terms-at [] j h = absurd (omega arith)
 terms-at (a ∷ []) j h = absurd (omega arith)
@@ -55,6 +59,24 @@ terms-at (a ∷ b ∷ c ∷ d ∷ l) zero h = refl
 terms-at (a ∷ b ∷ c ∷ d ∷ l) (suc j) h =
     let e : 4 * suc j ≡ suc (suc (suc (suc (4 * j)))) = omega arith in
     rw e (simp unary-clauses (simp unary-clauses at (terms-at l j (omega arith))))
+
+-- it lies within the bytes
+module _ (l : List ℕ) (j : ℕ) (b : j < length (terms l)) where
+  pub term-there : (x : ℕ) → x ≤ 4 → x * j + 4 ≤ length l
+  term-there x h = omega (arith, terms-length l, mul-le-mul-right j h)
+
+  pub term-fits : (x : ℕ) → x ≤ 4 → length l < 2 ^ 64 → Fits w64 (x * j)
+  term-fits x h k = record { fits = omega (arith, term-there x h) }
+
+  pub term-is : (r : ℕ) → r ≡ u32At l (4 * j) → r ≡ getD (terms l) j 0
+  term-is r e = e ∙ terms-at l j b
+
+pub before-is : (a b : ℕ) → ltb a b ≡ before a b
+unfolding before
+before-is a b = refl
+
+pub count-is : (l : List ℕ) → length l / 4 ≡ length (terms l)
+count-is l = sym (terms-length l)
 
 -- the four bytes of a number stand for it
 pub little-four : (n : ℕ) → little (n % 256) (n / 256 % 256) (n / 65536 % 256) (n / 16777216) ≡ n
@@ -76,12 +98,12 @@ length-termBytes (t ∷ ts) = let e = length-termBytes ts in omega arith
 
 -- ---- counting terms
 
--- a count with one term more, which may wrap: its last bit
-pub count-one : (n t x : ℕ) → bitOr t x ≡ x → (n + 1) % 2 ^ 32 % 2 ≡ bitXor (n % 2) (pick (subset t x) 1 0)
+-- a count with one term more, r, which may wrap: its last bit
+pub count-one : (n t x r : ℕ) → bitOr t x ≡ x → r ≡ (n + 1) % 2 ^ 32 → r % 2 ≡ bitXor (n % 2) (pick (subset t x) 1 0)
 unfolding subset
-count-one n t x o =
+count-one n t x r o e =
     let q : bitAnd t x ≡ t = omega (arith, or-add-and t x) in
-    rw (eq-eqb _ _ q) (bit-cases (λ b. (n + 1) % 2 ^ 32 % 2 ≡ (b + 1) % 2 → (n + 1) % 2 ^ 32 % 2 ≡ bitXor b 1) (λ e. e) (λ e. e) n (omega arith))
+    rw (e, eq-eqb _ _ q) (bit-cases (λ b. (n + 1) % 2 ^ 32 % 2 ≡ (b + 1) % 2 → (n + 1) % 2 ^ 32 % 2 ≡ bitXor b 1) (λ e. e) (λ e. e) n (omega arith))
 
 pub count-none : (n t x : ℕ) → (bitOr t x ≡ x → ⊥) → n % 2 ≡ bitXor (n % 2) (pick (subset t x) 1 0)
 unfolding subset
@@ -101,11 +123,15 @@ rest-end : (l : List ℕ) (x at : ℕ) → length l < at + 4 → rest l x at ≡
 unfolding valueAt
 rest-end l x at h = rw (terms-end l at h) refl
 
+rest-last : (l : List ℕ) (x at : ℕ) → at + 4 ≤ length l → length l < at + 8 → rest l x at ≡ pick (subset (u32At l at) x) 1 0
+rest-last l x at h k = rest-step l x at h ∙ ap (bitXor (pick (subset (u32At l at) x) 1 0)) (rest-end l x (at + 4) (omega arith)) ∙ xor-zero-r _
+
 -- s so far, and what is left: the terms from `at` on up to half, and those from half and `at` on
-abbrev pub Left : List ℕ → ℕ → ℕ → ℕ → ℕ → Type 0
+unfoldable pub Left : List ℕ → ℕ → ℕ → ℕ → ℕ → Type 0
 Left l x half at s = bitXor s (bitXor (rest l x at) (bitXor (rest l x half) (rest l x (half + at)))) ≡ valueAt (terms l) x
 
 pub left-start : (l : List ℕ) (x half : ℕ) → Left l x half 0 0
+unfolding Left
 left-start l x half =
     let o : half + 0 ≡ half = omega arith in
     rw (o, xor-self (rest l x half)) (xor-zero-r (rest l x 0))
@@ -114,8 +140,9 @@ regroup : (s p q a h b : ℕ) → bitXor (bitXor (bitXor s p) q) (bitXor a (bitX
 regroup s p q a h b = simp xor-ac
 
 -- a term of each half
-pub left-step : (l : List ℕ) (x half at s s₁ s₂ : ℕ) → at + 4 ≤ length l → half + at + 4 ≤ length l → Left l x half at s
+left-step : (l : List ℕ) (x half at s s₁ s₂ : ℕ) → at + 4 ≤ length l → half + at + 4 ≤ length l → Left l x half at s
     → s₁ ≡ bitXor s (pick (subset (u32At l at) x) 1 0) → s₂ ≡ bitXor s₁ (pick (subset (u32At l (half + at)) x) 1 0) → Left l x half (at + 4) s₂
+unfolding Left
 left-step l x half at s s₁ s₂ h k i e f =
     let p : ℕ = pick (subset (u32At l at) x) 1 0 in
     let q : ℕ = pick (subset (u32At l (half + at)) x) 1 0 in
@@ -125,17 +152,33 @@ left-step l x half at s s₁ s₂ h k i e f =
     ∙ ap₂ (λ (u v : ℕ). bitXor s (bitXor u (bitXor (rest l x half) v))) (sym (rest-step l x at h)) (sym (rest-step l x (half + at) k))
     ∙ i)
 
--- behind both halves no term is left, or one
-module _ (l : List ℕ) (x half s : ℕ) (i : Left l x half half s) where
-  behind : bitXor s (rest l x (2 * half)) ≡ valueAt (terms l) x
-  behind =
-      let o : 2 * half ≡ half + half = omega arith in
-      rw o (sym (ap (bitXor s) (xor-cancel (rest l x half) (rest l x (half + half)))) ∙ i)
+-- behind both halves
+behind : (l : List ℕ) (x half s : ℕ) → Left l x half half s → bitXor s (rest l x (2 * half)) ≡ valueAt (terms l) x
+unfolding Left
+behind l x half s i =
+    let o : 2 * half ≡ half + half = omega arith in
+    rw o (sym (ap (bitXor s) (xor-cancel (rest l x half) (rest l x (half + half)))) ∙ i)
 
-  pub left-none : length l < 2 * half + 4 → s ≡ valueAt (terms l) x
-  left-none h = sym (xor-zero-r s) ∙ ap (bitXor s) (sym (rest-end l x (2 * half) h)) ∙ behind
+-- ---- the loop of `value`: n is the count so far, half the bytes of a half
 
-  pub left-one : (s′ : ℕ) → 2 * half + 4 ≤ length l → length l < 2 * half + 8 → s′ ≡ bitXor s (pick (subset (u32At l (2 * half)) x) 1 0) → s′ ≡ valueAt (terms l) x
-  left-one s′ h k e =
-      let p : ℕ = pick (subset (u32At l (2 * half)) x) 1 0 in
-      e ∙ ap (bitXor s) (sym (xor-zero-r p) ∙ ap (bitXor p) (sym (rest-end l x (2 * half + 4) (omega arith))) ∙ sym (rest-step l x (2 * half) h)) ∙ behind
+abbrev halfOf : List ℕ → ℕ
+halfOf l = length l / 8 * 4
+
+-- a turn: t and u are the terms, n₁ and n₂ the count after each
+pub left-more : (l : List ℕ) (x at n t n₁ u n₂ : ℕ) → n₂ % 2 ≡ bitXor (n₁ % 2) (pick (subset u x) 1 0) → n₁ % 2 ≡ bitXor (n % 2) (pick (subset t x) 1 0)
+    → Left l x (halfOf l) at (n % 2) → at < halfOf l → at % 4 ≡ 0 → t ≡ u32At l at → u ≡ u32At l (halfOf l + at) → Left l x (halfOf l) (at + 4) (n₂ % 2)
+left-more l x at n t n₁ u n₂ e₂ e₁ i h a et eu =
+    left-step l x (halfOf l) at (n % 2) (n₁ % 2) (n₂ % 2) (omega arith) (omega arith) i (rw et at e₁) (rw eu at e₂)
+
+module _ (l : List ℕ) (x at n : ℕ) (i : Left l x (halfOf l) at (n % 2)) where
+  module _ (h : at ≤ halfOf l) (k : halfOf l ≤ at) where
+    after : bitXor (n % 2) (rest l x (2 * halfOf l)) ≡ valueAt (terms l) x
+    after = let e : at ≡ halfOf l = omega arith in behind l x (halfOf l) (n % 2) (rw e at i)
+
+    -- no term is left
+    pub left-none : length l / 4 % 2 ≡ 0 → n % 2 ≡ valueAt (terms l) x
+    left-none q = sym (xor-zero-r (n % 2)) ∙ ap (bitXor (n % 2)) (sym (rest-end l x (2 * halfOf l) (omega arith))) ∙ after
+
+    -- the term t is left, n₁ is the count with it
+    pub left-one : (length l / 4 % 2 ≡ 0 → ⊥) → (t n₁ : ℕ) → t ≡ u32At l (2 * halfOf l) → n₁ % 2 ≡ bitXor (n % 2) (pick (subset t x) 1 0) → n₁ % 2 ≡ valueAt (terms l) x
+    left-one q t n₁ et e = rw et at e ∙ ap (bitXor (n % 2)) (sym (rest-last l x (2 * halfOf l) (omega arith) (omega arith))) ∙ after

@@ -1,25 +1,19 @@
--- Laws of the walk over the records: a step, a refusal, the end, and what the reader's loop keeps.
+-- Laws of the walk over the records: a step, a refusal, the end, and the head record.
 use Prim.Native.Nat.{ℕ, suc, _+_, _-_, _≤_, _<_}
 use mathlib.Core.Path.{_≡_, refl, sym, ap, _∙_}
 use mathlib.Core.List.{List}
 use mathlib.Core.Bool.{Bool, true, false}
 use native.Mathlib.Omega.{arith}
-use native.Mathlib.Decide.{decLt}
 use native.Mathlib.Nat.{sub-zero}
 use native.Mathlib.Numerals.{add-one}
 use borrow.Author.Tests.{eqb-true, lt-ltb, le-ltb, ne-eqb}
-use lib.ListN.{length, getD, set, length-set}
-use lib.Seq.{getD-set-same, getD-set-other}
+use lib.ListN.{length}
 use lib.Dec.{eqb}
 use Rattle.anf.specs.Tests.{pick}
 use Rattle.design.specs.Bytes.{byte, u16At}
-use Rattle.design.specs.Layout.{checked, Limits, Answers}
 use Rattle.design.specs.Limits.{broken}
 use Rattle.design.specs.Reading.{lastOf, kindDue, sizeDue, lengthDue, frame, body, faultAt, refused, means, reading, walk, place, headOf, meaning}
 use Rattle.design.specs.declared.Head.{Head}
-use Rattle.design.specs.declared.Layout.{Layout}
-use Rattle.design.specs.declared.Checked.{Checked}
-use Rattle.design.specs.declared.Checked.the-variants.{Good, Beyond}
 use Rattle.design.proofs.Records.{Framed, framed, fault-frame, fault-body}
 
 -- a record without fault has none in its frame, and none in its body
@@ -67,31 +61,6 @@ pub place-next : (f : List ℕ) (i : ℕ) → place f (i + 1) ≡ place f i + 4 
 unfolding place
 place-next f i = rw add-one
 
--- what the reader's loop keeps at record i, which starts at `at`
-pub record Walked (f : List ℕ) (h : Head) (n : ℕ) (starts : List ℕ) (i at : ℕ) : Type 0 where
-  pub from : 1 ≤ i
-  pub to : i ≤ n
-  pub within : at ≤ length f
-  pub here : at ≡ place f i
-  pub room : length starts ≡ 88
-  pub before : (j : ℕ) → j < i → getD starts j 0 ≡ place f j + 4
-  pub rest : reading f ≡ walk f h (n - i) i at
-
-pub starts-more : (f starts : List ℕ) (i at : ℕ) → i < length starts → at ≡ place f i → ((j : ℕ) → j < i → getD starts j 0 ≡ place f j + 4) →
-    (j : ℕ) → j < i + 1 → getD (set starts i (at + 4)) j 0 ≡ place f j + 4
-starts-more f starts i at l p b j h = go (decLt j i)
-  where
-    go : Dec (j < i) → getD (set starts i (at + 4)) j 0 ≡ place f j + 4
-    go (yes q) = getD-set-other starts i j (at + 4) 0 (omega arith) ∙ b j q
-    go (no q) = let e : j ≡ i = omega arith in rw e (getD-set-same starts i (at + 4) 0 l ∙ ap (λ (x : ℕ). x + 4) p)
-
-pub answers-refused : (f : List ℕ) (l : Layout) (r p : ℕ) → reading f ≡ refused r p → l .reason ≡ r → l .place ≡ p → (r ≡ 0 → ⊥) → Answers f l
-answers-refused f l r p e a b n = record { reason = rw e a; place = rw e b; layout = λ z. absurd (n (sym a ∙ z)) }
-
-pub answers-means : (f : List ℕ) (l : Layout) → reading f ≡ means (meaning f) → l .reason ≡ 0 → l .place ≡ 0 → l .head ≡ headOf f →
-    ((i : ℕ) → i < lastOf (headOf f) + 1 → getD (l .starts) i 0 ≡ place f i + 4) → Answers f l
-answers-means f l e a b h s = record { reason = rw e a; place = rw e b; layout = λ z. record { read = e; head = h; starts = s } }
-
 start-walk : (f : List ℕ) → reading f ≡ walk f (headOf f) (lastOf (headOf f) + 1 - 0) 0 0
 unfolding reading
 start-walk f = rw sub-zero
@@ -137,56 +106,3 @@ module _ (f : List ℕ) where
       let w = fault-framed f (headOf f) 0 0 e in
       let s : u16At f 0 ≡ 3 = eqb-true _ _ (w .size) in
       (omega arith, place-next f 0 ∙ simp s, start-walk f ∙ walk-next f (headOf f) (lastOf (headOf f) + 1) 0 0 (omega arith) e ∙ simp s)
-
-module _ (f : List ℕ) (h : Head) (n : ℕ) (starts : List ℕ) where
-  -- where the loop begins, after the head
-  pub walked-first : h ≡ headOf f → faultAt f h 0 0 ≡ 0 → n ≡ lastOf h + 1 → length starts ≡ 88 → getD starts 0 0 ≡ 4 → Walked f h n starts 1 7
-  unfolding place
-  walked-first q e m l s =
-      let z = head-next f (rw q at e) in
-      record {
-        from = omega arith;
-        to = omega arith;
-        within = z .0;
-        here = sym (z .1);
-        room = l;
-        before = λ j t. let d : j ≡ 0 = omega arith in rw d s;
-        rest = rw (m, q) (z .2);
-      }
-
-  module _ (i at : ℕ) (w : Walked f h n starts i at) where
-    -- a turn
-    pub walked-more : i < n → n ≤ 88 → faultAt f h i at ≡ 0 → Walked f h n (set starts i (at + 4)) (i + 1) (at + 4 + u16At f at)
-    walked-more l m e =
-        let r = fault-framed f h i at e in
-        record {
-          from = omega arith;
-          to = omega arith;
-          within = r .rest;
-          here = rw (w .here) (sym (place-next f i));
-          room = length-set starts i (at + 4) ∙ w .room;
-          before = starts-more f starts i at (omega arith) (w .here) (w .before);
-          rest = w .rest ∙ walk-next f h n i at l e;
-        }
-
-    -- after the last turn
-    pub walked-last : h ≡ headOf f → n ≡ lastOf h + 1 → n ≤ i → (j : ℕ) → j < lastOf (headOf f) + 1 → getD starts j 0 ≡ place f j + 4
-    walked-last q m l j t = w .before j (let s : lastOf h ≡ lastOf (headOf f) = ap lastOf q in omega arith)
-
--- what the constructor's answer says of the file's head
-module _ (f : List ℕ) (r : Checked) (m s k : ℕ) (z : frame f 0 1 3 ≡ 0) (p : m ≡ byte f 4) (q : s ≡ byte f 5) (t : k ≡ byte f 6) (e : r ≡ checked m s k) where
-  read-good : (h : Head) (b : Bool) → broken (byte f 4) (byte f 5) (byte f 6) ≡ b → pick b Beyond (Good (headOf f)) ≡ Good h → Limits h × (h ≡ headOf f) × (faultAt f h 0 0 ≡ 0)
-  read-good h true l g = let w : _≡_ {A = ℕ} 0 1 = cc in absurd (omega arith)
-  read-good h false l g =
-      let w : h ≡ headOf f = cc in
-      (rw w l, w, rw w (head-good f z l))
-
-  pub good-head : (h : Head) → r ≡ Good h → Limits h × (h ≡ headOf f) × (faultAt f h 0 0 ≡ 0)
-  good-head h g = read-good h _ refl (rw (p, q, t) at (sym e ∙ g))
-
-  read-beyond : (b : Bool) → pick b Beyond (Good (headOf f)) ≡ Beyond → b ≡ true
-  read-beyond true g = refl
-  read-beyond false g = let w : _≡_ {A = ℕ} 0 1 = cc in absurd (omega arith)
-
-  pub beyond-head : r ≡ Beyond → reading f ≡ refused 4 0
-  beyond-head g = head-beyond f z (read-beyond _ (rw (p, q, t) at (sym e ∙ g)))

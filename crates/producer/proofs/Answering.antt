@@ -26,29 +26,35 @@ use Rattle.design.proofs.Limits.{bounds}
 use Rattle.design.proofs.Overwriting.{overwrite-front}
 use Rattle.producer.specs.Direct.{has, isProduct, chosen, componentFor, stands, directList, directLists, directStage, directSharing}
 use Rattle.producer.specs.Producing.{produced, producedReason, producing, outputAfter}
-use Rattle.producer.specs.Expanding.{Ready, Follows, Gathers, oneStageFile, listRecords, ruleTables, refused}
+use Rattle.producer.specs.Expanding.{Permutes, Ready, Follows, Gathers, oneStageFile, listRecords, ruleTables, refused}
 use Rattle.producer.specs.declared.Produced.{Produced}
 use Rattle.producer.proofs.Gathering.{rule-follows}
 use Rattle.producer.proofs.Writing.{file-length}
 
 -- ---- the answer from the reason
 
+-- r is answered, and the output is `after`
+pub record Answered (m s : ℕ) (t out : List ℕ) (r : Produced) (after : List ℕ) : Type 0 where
+  pub answer : r ≡ producing m s t (length out)
+  pub output : after ≡ outputAfter m s t out
+
+-- the same as a contract has it
+pub answered : {m s : ℕ} {t out : List ℕ} {r : Produced} {after : List ℕ} → Answered m s t out r after → (r ≡ producing m s t (length out)) × (after ≡ outputAfter m s t out)
+answered a = (a .answer, a .output)
+
 module _ (m s : ℕ) (t out : List ℕ) where
-  abbrev pub Answered : Produced → List ℕ → Type 0
-  Answered r after = (r ≡ producing m s t (length out)) × (after ≡ outputAfter m s t out)
-
-  pub refusal-answer : (k : ℕ) → 0 < k → producedReason m s t (length out) ≡ k → Answered (refused k) out
+  pub refusal-answer : (r : Produced) (k : ℕ) → r ≡ refused k → 0 < k → producedReason m s t (length out) ≡ k → Answered m s t out r out
   unfolding producing outputAfter
-  refusal-answer k p e =
+  refusal-answer r k er p e =
       let no : eqb (producedReason m s t (length out)) 0 ≡ false = ne-eqb (producedReason m s t (length out)) 0 (λ z. omega arith) in
-      (rw (no, e) refl, sym (pick-false (eqb (producedReason m s t (length out)) 0) _ out no))
+      record { answer = rw (er, no, e) refl; output = sym (pick-false (eqb (producedReason m s t (length out)) 0) _ out no) }
 
-  pub success-answer : (after : List ℕ) → producedReason m s t (length out) ≡ 0 → after ≡ overwrite out 0 (produced m s t)
-      → Answered (record { reason = 0; length = length (produced m s t) }) after
+  pub success-answer : (size : ℕ) (after : List ℕ) → size ≡ length (produced m s t) → producedReason m s t (length out) ≡ 0 → after ≡ overwrite out 0 (produced m s t)
+      → Answered m s t out (record { reason = 0; length = size }) after
   unfolding producing outputAfter
-  success-answer after e w =
+  success-answer size after es e w =
       let yes′ : eqb (producedReason m s t (length out)) 0 ≡ true = eq-eqb (producedReason m s t (length out)) 0 e in
-      (rw (yes′, e) refl, w ∙ overwrite-front out (produced m s t) ∙ sym (pick-true (eqb (producedReason m s t (length out)) 0) _ out yes′))
+      record { answer = rw (es, yes′, e) refl; output = w ∙ overwrite-front out (produced m s t) ∙ sym (pick-true (eqb (producedReason m s t (length out)) 0) _ out yes′) }
 
 -- ---- the reasons in their order
 
@@ -76,14 +82,20 @@ module _ (m s : ℕ) (t : List ℕ) (room : ℕ) where
         reason-repeat r = past-size ∙ pick-false (not (entriesBelow t (2 ^ m))) 5 _ (ap not e) ∙ pick-true (repeats (2 ^ m) t) 8 _ r
 
         module _ (r : repeats (2 ^ m) t ≡ false) where
-          past-repeat : producedReason m s t room ≡ pick (leb s (degree m (entry t))) 16 (pick (ltb room (length (produced m s t))) 17 0)
-          past-repeat = past-size ∙ pick-false (not (entriesBelow t (2 ^ m))) 5 _ (ap not e) ∙ pick-false (repeats (2 ^ m) t) 8 _ r
+          pub permutes : Permutes m s t room
+          permutes = record {
+            limits = b;
+            size = z;
+            below = e;
+            passed = past-size ∙ pick-false (not (entriesBelow t (2 ^ m))) 5 _ (ap not e) ∙ pick-false (repeats (2 ^ m) t) 8 _ r;
+          }
 
-          pub reason-degree : s ≤ degree m (entry t) → producedReason m s t room ≡ 16
-          reason-degree d = past-repeat ∙ pick-true (leb s (degree m (entry t))) 16 _ (le-leb _ _ d)
+  module _ (p : Permutes m s t room) where
+    pub reason-degree : s ≤ degree m (entry t) → producedReason m s t room ≡ 16
+    reason-degree d = p .passed ∙ pick-true (leb s (degree m (entry t))) 16 _ (le-leb _ _ d)
 
-          pub reason-last : degree m (entry t) < s → producedReason m s t room ≡ pick (ltb room (length (produced m s t))) 17 0
-          reason-last d = past-repeat ∙ pick-false (leb s (degree m (entry t))) 16 _ (lt-leb _ _ d)
+    reason-last : degree m (entry t) < s → producedReason m s t room ≡ pick (ltb room (length (produced m s t))) 17 0
+    reason-last d = p .passed ∙ pick-false (leb s (degree m (entry t))) 16 _ (lt-leb _ _ d)
 
 -- ---- the head
 
@@ -112,37 +124,36 @@ module _ (m s : ℕ) (t out : List ℕ) (b : broken m s 1 ≡ false) (z : length
   words-first = ap (take (2 ^ m)) words-are ∙ take-at (transformed m t) (drop (2 ^ m) out) (2 ^ m) (tabulate-length (2 ^ m) (subsetSum m (λ v. getD t v 0)))
 
   -- their degree is that of the table
-  pub words-degree-is : wordsDegree (take (2 ^ m) (transformAfter m t out)) ≡ degree m (entry t)
+  words-degree-is : wordsDegree (take (2 ^ m) (transformAfter m t out)) ≡ degree m (entry t)
   words-degree-is = ap wordsDegree words-first ∙ transformed-degree m t
 
-  pub words-at : (u : ℕ) → u < 2 ^ m → getD (transformAfter m t out) u 0 ≡ subsetSum m (entry t) u
+  words-at : (u : ℕ) → u < 2 ^ m → getD (transformAfter m t out) u 0 ≡ subsetSum m (entry t) u
   words-at u l =
       sym (getD-take (2 ^ m) (transformAfter m t out) u 0 l) ∙ ap (λ (x : List ℕ). getD x u 0) words-first
       ∙ tabulate-at (2 ^ m) (subsetSum m (λ v. getD t v 0)) u 0 l
 
-module _ (m s n : ℕ) (t out words : List ℕ) (b : broken m s 1 ≡ false) (ne : n ≡ 2 ^ m) (w : words ≡ transformAfter m t out) (size : length out ≡ 64)
-    (z : length t ≡ 2 ^ m) (e : entriesBelow t (2 ^ m) ≡ true) where
-  pub words-room : 2 ^ m ≤ length out
-  words-room = omega (arith, pow-mono (bounds m s 1 b .m-high))
+module _ (m s : ℕ) (t : List ℕ) (room : ℕ) (p : Permutes m s t room) (out words : List ℕ) (w : words ≡ transformAfter m t out) (size : length out ≡ 64) where
+  words-room : 2 ^ m ≤ length out
+  words-room = omega (arith, pow-mono (bounds m s 1 (p .limits) .m-high))
 
   -- what the code finds for the degree
-  pub found-degree : wordsDegree (take (n - 0) words) ≡ degree m (entry t)
+  pub found-degree : wordsDegree (take (length t - 0) words) ≡ degree m (entry t)
   found-degree =
-      let k : n - 0 ≡ 2 ^ m = omega arith in
-      ap₂ (λ (x : ℕ) (y : List ℕ). wordsDegree (take x y)) k w ∙ words-degree-is m s t out b z e words-room
+      let k : length t - 0 ≡ 2 ^ m = omega (arith, p .size) in
+      ap₂ (λ (x : ℕ) (y : List ℕ). wordsDegree (take x y)) k w ∙ words-degree-is m s t out (p .limits) (p .size) (p .below) words-room
 
-  pub found-ready : (room : ℕ) → repeats (2 ^ m) t ≡ false → degree m (entry t) < s → length words ≡ 64 → Ready m s t words room
-  found-ready room r d l = record {
-    limits = b;
-    size = z;
-    passed = reason-last m s t room b z e r d;
+  pub found-ready : degree m (entry t) < s → length words ≡ length out → Ready m s t words room
+  found-ready d l = record {
+    limits = p .limits;
+    size = p .size;
+    passed = reason-last m s t room p d;
     words-all = omega (arith, words-room);
-    coefficients = λ u k. ap (λ (x : List ℕ). getD x u 0) w ∙ words-at m s t out b z e words-room u k;
+    coefficients = λ u k. ap (λ (x : List ℕ). getD x u 0) w ∙ words-at m s t out (p .limits) (p .size) (p .below) words-room u k;
   }
 
 -- ---- the file
 
-pub lists-congr : (m s : ℕ) (f g : ℕ → ℕ) → ((u : ℕ) → u < 2 ^ m → f u ≡ g u) → directLists m s f ≡ directLists m s g
+lists-congr : (m s : ℕ) (f g : ℕ → ℕ) → ((u : ℕ) → u < 2 ^ m → f u ≡ g u) → directLists m s f ≡ directLists m s g
 unfolding directLists directList stands
 lists-congr m s f g h =
     tabulate-congr (m * s) _ _ (λ i l. passing-congr (2 ^ (m * s)) _ _ (λ p k.

@@ -20,7 +20,7 @@ use Rattle.producer.proofs.Elements.{place-lt}
 
 -- ---- joined lists
 
-pub joined-more : (n : ℕ) (f : ℕ → List ℕ) → joined (n + 1) f ≡ joined n f ++ f n
+joined-more : (n : ℕ) (f : ℕ → List ℕ) → joined (n + 1) f ≡ joined n f ++ f n
 unfolding joined
 joined-more n f = rw add-one refl
 

@@ -25,6 +25,9 @@ module _ (m s : ℕ) (t out : List ℕ) where
   length-taken = sym (length-take-le (producing m s t (length out) .length) (outputAfter m s t out) length-within)
 
 -- the same of an answer and the output after it
-pub answer-within : (m s : ℕ) (t out : List ℕ) (r : Produced) (after : List ℕ) → after ≡ outputAfter m s t out → r ≡ producing m s t (length out)
-    → (r .length ≤ length after) × (r .length ≡ length (take (r .length) after))
-answer-within m s t out r after e a = rw (e, a) (length-within m s t out, length-taken m s t out)
+module _ (m s : ℕ) (t out : List ℕ) (r : Produced) (after : List ℕ) (e : after ≡ outputAfter m s t out) (a : r ≡ producing m s t (length out)) where
+  pub answer-within : r .length ≤ length after
+  answer-within = rw (e, a) (length-within m s t out)
+
+  pub answer-taken : r .length ≡ length (take (r .length) after)
+  answer-taken = rw (e, a) (length-taken m s t out)

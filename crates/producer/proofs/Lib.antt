@@ -12,7 +12,10 @@ pub mod Inserting
 pub mod Emitting
 pub mod Choosing
 pub mod Gathering
+pub mod Stepping
 pub mod Writing
+pub mod Filing
 pub mod Answering
+pub mod Leaving
 pub mod Bench
 pub mod Lengths

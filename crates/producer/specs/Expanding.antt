@@ -1,13 +1,14 @@
 -- The expansion as the code makes it: products in the order in which they come, each put into its place in a list.
 use Prim.Native.Nat.{ℕ, zero, suc, _+_, _*_, _^_, _≤_, _<_}
 use mathlib.Core.Path.{_≡_}
-use mathlib.Core.Bool.{false}
+use mathlib.Core.Bool.{true, false}
 use mathlib.Core.List.{List, [], _∷_, _++_, map}
-use lib.Dec.{eqb, ltb}
+use lib.Dec.{eqb, ltb, leb}
 use lib.Bits.{bitOr}
-use lib.ListN.{length, getD}
+use lib.ListN.{length, getD, take}
 use Rattle.anf.specs.Tests.{pick, tabulate}
-use Rattle.anf.specs.NormalForm.{subsetSum}
+use Rattle.anf.specs.NormalForm.{subsetSum, degree}
+use Rattle.anf.specs.Tables.{entriesBelow}
 use Rattle.anf.specs.Terms.{before}
 use Rattle.design.specs.Limits.{greatestTerms, broken}
 use Rattle.design.specs.Bytes.{termBytes}
@@ -40,6 +41,11 @@ inserted t (x ∷ xs) = pick (before t x) t x ∷ inserted (pick (before t x) x 
 unfoldable pub insertedAll : List ℕ → List ℕ → List ℕ
 insertedAll [] l = l
 insertedAll (t ∷ ts) l = insertedAll ts (inserted t l)
+
+-- the first n terms of l, with ts in their places too, are the first r of l′
+pub record Grown (ts l : List ℕ) (n : ℕ) (l′ : List ℕ) (r : ℕ) : Type 0 where
+  pub count : r ≡ n + length ts
+  pub terms : take r l′ ≡ insertedAll ts (take n l)
 
 -- what the term u brings to the list of bit b of component c, where its coefficient word has bit b
 abbrev pub brought : List ℕ → ℕ → ℕ → ℕ → ℕ → ℕ → ℕ → List ℕ
@@ -77,9 +83,20 @@ listRecord ts = aRecord 3 (termBytes ts)
 unfoldable pub listRecords : List (List ℕ) → List ℕ
 listRecords ls = join (map listRecord ls)
 
+-- the records before them: the head, G and S, which are equal
+unfoldable pub tableRecords : ℕ → ℕ → List ℕ → List ℕ
+tableRecords m s t = aRecord 1 (m ∷ s ∷ 1 ∷ []) ++ (aRecord 2 t ++ aRecord 2 t)
+
 -- the file of one stage with G equal to S
 unfoldable pub oneStageFile : ℕ → ℕ → List ℕ → List (List ℕ) → List ℕ
 oneStageFile m s t ls = encode (record { m = m; s = s; k = 1; box = t; stages = record { table = t; lists = ls } ∷ [] })
+
+-- every test before that of the degree has passed
+pub record Permutes (m s : ℕ) (t : List ℕ) (room : ℕ) : Type 0 where
+  pub limits : broken m s 1 ≡ false
+  pub size : length t ≡ 2 ^ m
+  pub below : entriesBelow t (2 ^ m) ≡ true
+  pub passed : producedReason m s t room ≡ pick (leb s (degree m (entry t))) 16 (pick (ltb room (length (produced m s t))) 17 0)
 
 -- every test but the last has passed, and words are the coefficient words of the table
 pub record Ready (m s : ℕ) (t words : List ℕ) (room : ℕ) : Type 0 where

@@ -12,7 +12,7 @@ ghost use Rattle.anf.specs.Terms.{before};
 ghost use Rattle.design.specs.Limits.{greatestTerms, broken};
 ghost use Rattle.producer.specs.Direct.{directList};
 ghost use Rattle.producer.specs.Direct.{has as hasElement};
-ghost use Rattle.producer.specs.Expanding.{ending, emitted, inserted, insertedAll, brought, ruleTables, Expands, Gathers};
+ghost use Rattle.producer.specs.Expanding.{ending, emitted, inserted, Grown, brought, ruleTables, Expands, Gathers};
 
 // The component to which a product goes, by the set of its chosen shares: for 3 shares, for 4, for 5. Of all shares there is none.
 const RULES: [u8; 56] = [
@@ -136,8 +136,7 @@ fn place(list: &mut [u32], n: usize, t: u32)
 // Puts the product p into its place among the first n terms, if it goes to the component `to`, and answers how many terms there are then.
 fn emit(rule: &[u8], to: usize, p: u32, chosen: u32, list: &mut [u32], n: usize) -> usize
     requires { ⌜ (chosen < length (now rule)) × (n + length (ending (now rule) to p chosen) ≤ length (now list)) ⌝ }
-    ensures { λ r. ⌜ r ≡ n + length (ending (now (rule .entry)) to p chosen) ⌝ }
-    ensures { λ r. ⌜ take r (now (list .exit)) ≡ insertedAll (ending (now (rule .entry)) to p chosen) (take n (now (list .entry))) ⌝ }
+    ensures { λ r. ⌜ Grown (ending (now (rule .entry)) to p chosen) (now (list .entry)) n (now (list .exit)) r ⌝ }
 {
     if component(rule, chosen) != to {
         return n;
@@ -160,8 +159,7 @@ fn expand(
     n: usize,
 ) -> usize
     requires { ⌜ Expands (now rule) m s left chosen (length (now list)) n (emitted (now rule) m s u to left p chosen) ⌝ }
-    ensures { λ r. ⌜ r ≡ n + length (emitted (now (rule .entry)) m s u to left p chosen) ⌝ }
-    ensures { λ r. ⌜ take r (now (list .exit)) ≡ insertedAll (emitted (now (rule .entry)) m s u to left p chosen) (take n (now (list .entry))) ⌝ }
+    ensures { λ r. ⌜ Grown (emitted (now (rule .entry)) m s u to left p chosen) (now (list .entry)) n (now (list .exit)) r ⌝ }
 {
     if left == 0 {
         return emit(rule, to, p, chosen, list, n);
@@ -194,8 +192,7 @@ fn add_term(
     n: usize,
 ) -> usize
     requires { ⌜ (b < 32) × Expands (now rule) m s m 0 (length (now list)) n (brought (now rule) m s to b word u) ⌝ }
-    ensures { λ r. ⌜ r ≡ n + length (brought (now (rule .entry)) m s to b word u) ⌝ }
-    ensures { λ r. ⌜ take r (now (list .exit)) ≡ insertedAll (brought (now (rule .entry)) m s to b word u) (take n (now (list .entry))) ⌝ }
+    ensures { λ r. ⌜ Grown (brought (now (rule .entry)) m s to b word u) (now (list .entry)) n (now (list .exit)) r ⌝ }
 {
     if !has(word as u32, b) {
         return n;

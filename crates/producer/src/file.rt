@@ -4,14 +4,15 @@ use design::put_bytes;
 use design::put_head;
 use design::put_term;
 ghost use mathlib.Core.Path.{_≡_};
+ghost use mathlib.Core.Bool.{false};
 ghost use mathlib.Core.List.{List};
 ghost use Prim.Native.Nat.{_+_, _*_, _^_, _<_, _≤_};
 ghost use lib.ListN.{length, getD, take};
-ghost use Rattle.design.specs.Limits.{greatestTerms};
+ghost use Rattle.design.specs.Limits.{greatestTerms, broken};
 ghost use Rattle.design.specs.Bytes.{overwrite};
 ghost use Rattle.design.specs.Encode.{aRecord};
 ghost use Rattle.producer.specs.Direct.{directLists};
-ghost use Rattle.producer.specs.Expanding.{Gathers, listRecord, listRecords, oneStageFile};
+ghost use Rattle.producer.specs.Expanding.{Gathers, tableRecords, listRecord, listRecords, oneStageFile};
 
 // How many bytes the lists take.
 pub fn lists_size(rule: &[u8], m: usize, s: usize, words: &[u8], list: &mut [u32]) -> usize
@@ -38,6 +39,18 @@ fn put_record(out: &mut [u8], at: usize, kind: usize, body: &[u8]) -> usize
     put_head(out, at, body.len(), kind);
     put_bytes(out, at + 4, body);
     at + 4 + body.len()
+}
+
+// Writes the records before the lists, and answers where the lists start.
+fn put_tables(m: usize, s: usize, table: &[u8], out: &mut [u8]) -> usize
+    requires { ⌜ (broken m s 1 ≡ false) × (length (now table) ≡ 2 ^ m) × (length (tableRecords m s (now table)) ≤ length (now out)) ⌝ }
+    ensures { λ r. ⌜ r ≡ length (tableRecords m s (now (table .entry))) ⌝ }
+    ensures { λ _. ⌜ now (out .exit) ≡ overwrite (now (out .entry)) 0 (tableRecords m s (now (table .entry))) ⌝ }
+{
+    let head = [m as u8, s as u8, 1];
+    let box_at = put_record(out, 0, 1, &head);
+    let stage_at = put_record(out, box_at, 2, table);
+    put_record(out, stage_at, 2, table)
 }
 
 // Writes the record of the list of the first n terms, and answers where the next starts.
@@ -93,10 +106,7 @@ pub fn put_file(
     requires { ⌜ Gathers (now rule) m s (length (now words)) (length (now list)) × (length (now table) ≡ 2 ^ m) × (length (oneStageFile m s (now table) (directLists m s (λ u. getD (now words) u 0))) ≤ length (now out)) ⌝ }
     ensures { λ _. ⌜ now (out .exit) ≡ overwrite (now (out .entry)) 0 (oneStageFile m s (now (table .entry)) (directLists m s (λ u. getD (now (words .entry)) u 0))) ⌝ }
 {
-    let head = [m as u8, s as u8, 1];
-    let box_at = put_record(out, 0, 1, &head);
-    let stage_at = put_record(out, box_at, 2, table);
-    let lists_at = put_record(out, stage_at, 2, table);
+    let lists_at = put_tables(m, s, table, out);
     let end_at = put_lists(rule, m, s, words, list, out, lists_at);
     put_head(out, end_at, 0, 4);
 }

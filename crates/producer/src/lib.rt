@@ -18,7 +18,7 @@ ghost use mathlib.Core.Bool.{false};
 ghost use lib.ListN.{length};
 ghost use Rattle.design.specs.Limits.{broken};
 ghost use Rattle.producer.specs.Producing.{producing, outputAfter};
-ghost use Rattle.producer.specs.Expanding.{Ready, refused};
+ghost use Rattle.producer.specs.Expanding.{Gathers, Permutes, Ready, refused};
 
 // The number of a refusal, or 0 and the length of the file.
 #[repr(C)]
@@ -34,6 +34,31 @@ fn refusal(reason: usize) -> Produced
 }
 
 // Writes the file of the direct sharing, if it fits. It is known to fit before a byte is written.
+fn share_by(
+    rule: &[u8],
+    m: usize,
+    s: usize,
+    table: &[u8],
+    words: &[u8],
+    list: &mut [u32],
+    output: &mut [u8],
+) -> Produced
+    requires { ⌜ Ready m s (now table) (now words) (length (now output)) × Gathers (now rule) m s (length (now words)) (length (now list)) ⌝ }
+    ensures { λ r. ⌜ r ≡ producing m s (now (table .entry)) (length (now (output .entry))) ⌝ }
+    ensures { λ _. ⌜ now (output .exit) ≡ outputAfter m s (now (table .entry)) (now (output .entry)) ⌝ }
+{
+    let size = 19 + 2 * table.len() + lists_size(rule, m, s, words, list);
+    if output.len() < size {
+        return refusal(17);
+    }
+    put_file(rule, m, s, table, words, list, output);
+    Produced {
+        reason: 0,
+        length: size,
+    }
+}
+
+// The same by the part of the rule's tables for s shares.
 fn share(m: usize, s: usize, table: &[u8], words: &[u8], output: &mut [u8]) -> Produced
     requires { ⌜ Ready m s (now table) (now words) (length (now output)) ⌝ }
     ensures { λ r. ⌜ r ≡ producing m s (now (table .entry)) (length (now (output .entry))) ⌝ }
@@ -43,15 +68,23 @@ fn share(m: usize, s: usize, table: &[u8], words: &[u8], output: &mut [u8]) -> P
     let tables = rules();
     let rule = &tables[sets - 8..sets - 8 + sets];
     let mut list = [0u32; GREATEST_TERMS];
-    let size = 19 + 2 * table.len() + lists_size(rule, m, s, words, &mut list);
-    if output.len() < size {
-        return refusal(17);
+    share_by(rule, m, s, table, words, &mut list, output)
+}
+
+// The test of the degree, for a permutation table.
+fn share_permutation(m: usize, s: usize, table: &[u8], output: &mut [u8]) -> Produced
+    requires { ⌜ Permutes m s (now table) (length (now output)) ⌝ }
+    ensures { λ r. ⌜ r ≡ producing m s (now (table .entry)) (length (now (output .entry))) ⌝ }
+    ensures { λ _. ⌜ now (output .exit) ≡ outputAfter m s (now (table .entry)) (now (output .entry)) ⌝ }
+{
+    // 2 to the power of the greatest width
+    let mut words = [0u8; 64];
+    to_coefficients(m, table, &mut words);
+    let degree = words_degree(&words[0..table.len()]);
+    if s <= degree {
+        return refusal(16);
     }
-    put_file(rule, m, s, table, words, &mut list, output);
-    Produced {
-        reason: 0,
-        length: size,
-    }
+    share(m, s, table, &words, output)
 }
 
 // The tests of the table, for m and s within the limits.
@@ -70,14 +103,7 @@ fn produce_within(m: usize, s: usize, table: &[u8], output: &mut [u8]) -> Produc
     if repeats(table) {
         return refusal(8);
     }
-    // 2 to the power of the greatest width
-    let mut words = [0u8; 64];
-    to_coefficients(m, table, &mut words);
-    let degree = words_degree(&words[0..n]);
-    if s <= degree as usize {
-        return refusal(16);
-    }
-    share(m, s, table, &words, output)
+    share_permutation(m, s, table, output)
 }
 
 // Writes the direct sharing of a permutation table of 2^m entries of m bits, with s shares, as a design file.

@@ -8,3 +8,5 @@ pub mod Meetings
 pub mod Dependence
 pub mod Walk
 pub mod Running
+pub mod Evaluating
+pub mod Sending

@@ -26,7 +26,7 @@ use Rattle.design.specs.Layout.{Describes}
 use Rattle.design.specs.declared.Layout.{Layout}
 use Rattle.design.proofs.Answered.{described}
 use Rattle.threshold.specs.Sharing.{share, sum}
-use Rattle.threshold.specs.Stages.{output, component}
+use Rattle.threshold.specs.Stages.{output}
 use Rattle.threshold.specs.Chain.{handed}
 use Rattle.threshold.specs.Running.{packed, unpacked, shareFits, sharesFit, refusal, success, runningOn, running}
 use Rattle.threshold.proofs.Sharing.{share-lt, sum-shares, pow-step, pow-zeroth, shares-eq}
@@ -180,16 +180,8 @@ unpacked-filled w s σ hs = go s hs
     go (suc (suc (suc (suc (suc zero))))) h = refl
     go (suc (suc (suc (suc (suc (suc k)))))) h = absurd (omega arith)
 
-module _ (w : ℕ) (ls : List (List ℕ)) (x : ℕ) where
-  pub filled-next : (j v : ℕ) (out : List ℕ) → j < greatestShares → out ≡ tabulate j (λ i. component w ls i x) ++ drop j zeros → v ≡ component w ls j x
-      → set out j v ≡ tabulate (j + 1) (λ i. component w ls i x) ++ drop (j + 1) zeros
-  filled-next j v out h e q = ap₂ (λ (l : List ℕ) (y : ℕ). set l j y) e q ∙ tabulate-more j (λ i. component w ls i x) zeros h
-
-  pub filled-end : (s j : ℕ) (out l : List ℕ) → s ≤ greatestShares → j ≡ s → x ≡ packed w s l → out ≡ tabulate j (λ i. component w ls i x) ++ drop j zeros
-      → out ≡ unpacked w s (output ls (packed w s l))
-  filled-end s j out l hs z q e =
-      e ∙ ap (λ (k : ℕ). tabulate k (λ i. component w ls i x) ++ drop k zeros) z ∙ unpacked-filled w s (output ls x) hs
-      ∙ ap (λ (y : ℕ). unpacked w s (output ls y)) q
+pub tabulated-more : (j : ℕ) (f : ℕ → ℕ) → j < greatestShares → set (tabulate j f ++ drop j zeros) j (f j) ≡ tabulate (j + 1) f ++ drop (j + 1) zeros
+tabulated-more j f h = tabulate-more j f zeros h
 
 -- ---- the chain
 

@@ -3,13 +3,23 @@ use design::Layout;
 ghost use mathlib.Core.Path.{_≡_};
 ghost use Prim.Native.Nat.{_+_, _-_, _*_, _^_, _≤_, _<_};
 ghost use lib.ListN.{length};
+ghost use Rattle.anf.specs.Terms.{valueAt};
+ghost use Rattle.design.specs.Bytes.{terms};
 ghost use Rattle.design.specs.Limits.{greatestWidth, greatestShareBits};
 ghost use Rattle.design.specs.Design.{stageOf};
 ghost use Rattle.design.specs.Reading.{meaning};
 ghost use Rattle.design.specs.Layout.{Describes};
-ghost use Rattle.design.specs.StageLists.{AllInside, listsOf};
+ghost use Rattle.design.specs.StageLists.{bodyAt, Inside, AllInside, listsOf};
 ghost use Rattle.threshold.specs.Sharing.{sum};
 ghost use Rattle.threshold.specs.Stages.{output, component};
+
+// The value at the sharing `x` of the list whose body starts at `start`, the next one at `next`.
+fn bit_at(file: &[u8], start: usize, next: usize, x: u32) -> u32
+    requires { ⌜ Inside (now file) start next ⌝ }
+    ensures { λ r. ⌜ (r ≡ valueAt (terms (bodyAt (now (file .entry)) start next)) x) × (r < 2) ⌝ }
+{
+    design::value(design::body(file, start, next), x)
+}
 
 // The output at the sharing `x` of `n` lists, whose bodies start where `starts` has it from `first` on.
 pub fn output_of(file: &[u8], starts: &[usize], first: usize, n: usize, x: u32) -> u32
@@ -22,7 +32,7 @@ pub fn output_of(file: &[u8], starts: &[usize], first: usize, n: usize, x: u32) 
     while at > first {
         at -= 1;
         let start = starts[at];
-        y = 2 * y + design::value(design::body(file, start, next), x);
+        y = 2 * y + bit_at(file, start, next, x);
         next = start;
     }
     y

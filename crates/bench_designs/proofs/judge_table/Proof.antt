@@ -1,6 +1,6 @@
 -- `bench_designs::judge_table` meets its contract: the length that producing states lies within the output.
 -- Assumes nothing.
-use Rattle.producer.proofs.Lengths.{answer-within}
+use Rattle.producer.proofs.Lengths.{answer-within, answer-taken}
 use borrow.Author.Needs.{needs}
 use Rattle.bench_designs.proofs.judge_table.Statement.{statement}
 use Rattle.bench_designs.proofs.judge_table.Tie as tie
@@ -39,10 +39,10 @@ returns : tie.Need-returns
 returns c = search needs
 
 slice-reshare-prefix-judge-file : tie.Need-slice-reshare-prefix-judge-file
-slice-reshare-prefix-judge-file c = answer-within _ _ _ _ _ _ (c .before .before .before .before .before .before .before .before .before .before .produce .ensures .1) (c .before .before .before .before .before .before .before .before .before .before .produce .ensures .0) .0
+slice-reshare-prefix-judge-file c = search answer-within
 
 slice-aggregate-judge-file : tie.Need-slice-aggregate-judge-file
-slice-aggregate-judge-file c = answer-within _ _ _ _ _ _ (c .before .before .before .before .before .before .before .before .before .before .before .produce .ensures .1) (c .before .before .before .before .before .before .before .before .before .before .before .produce .ensures .0) .1
+slice-aggregate-judge-file c = search answer-taken
 
 judge-file-requires : tie.Need-judge-file-requires
 judge-file-requires c κs = search needs

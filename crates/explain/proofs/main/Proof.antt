@@ -1,6 +1,7 @@
 -- `explain::main` ends, and prints a design only where the file reads.
 -- Assumes nothing.
 use borrow.Author.Needs.{needs}
+use Rattle.explain.proofs.Printing.{read-well}
 use Rattle.explain.proofs.main.Statement.{statement}
 use Rattle.explain.proofs.main.Tie as tie
 
@@ -38,7 +39,7 @@ read-requires : tie.Need-read-requires
 read-requires c κs = search needs
 
 print-design-requires : tie.Need-print-design-requires
-print-design-requires c κs = c .before .before .read .ensures .layout (c .if2 .taken)
+print-design-requires c κs = search read-well
 
 slice-aggregate-judge : tie.Need-slice-aggregate-judge
 slice-aggregate-judge c = search needs

@@ -1,12 +1,8 @@
 -- `explain::print_stage` ends, and asks only for lists that the stage has: the head of a file that reads is within the limits.
 -- Assumes nothing.
-use Prim.Native.Nat.{ℕ, _+_, _*_, _-_, _^_, _≤_, _<_}
-use mathlib.Core.Path.{_≡_}
-use native.Mathlib.Omega.{arith}
-use native.Mathlib.Nat.{div-le-self}
+use Prim.Native.Nat.{_-_, _≤_}
 use borrow.Author.Needs.{needs}
-use Rattle.design.proofs.Answered.{described}
-use lib.ListN.{length}
+use Rattle.explain.proofs.Printing.{some-wide, few-bits, bits-fit, component-low, turn-fits}
 use Rattle.explain.proofs.print_stage.Statement.{statement}
 use Rattle.explain.proofs.print_stage.Tie as tie
 
@@ -41,7 +37,7 @@ print-table-requires : tie.Need-print-table-requires Inv-loop μ-loop
 print-table-requires c κs = search needs
 
 mul-bits : tie.Need-mul-bits Inv-loop μ-loop
-mul-bits c = let b = described (c .before .before .before .before .before .before .before .before .before .pre .0) .bounds in omega arith
+mul-bits c = search bits-fit
 
 loop-holds : tie.Need-loop-holds Inv-loop μ-loop
 loop-holds c = search needs
@@ -50,16 +46,16 @@ list-requires : tie.Need-list-requires Inv-loop μ-loop
 list-requires c κs = search needs
 
 div-print-formula : tie.Need-div-print-formula Inv-loop μ-loop
-div-print-formula c = let b = described (c .before .before .before .before .before .before .before .before .before .before .before .before .pre .0) .bounds in omega arith
+div-print-formula c = search some-wide
 
 rem-print-formula : tie.Need-rem-print-formula Inv-loop μ-loop
-rem-print-formula c = let b = described (c .before .before .before .before .before .before .before .before .before .before .before .before .pre .0) .bounds in omega arith
+rem-print-formula c = search some-wide
 
 print-formula-requires : tie.Need-print-formula-requires Inv-loop μ-loop
-print-formula-requires c κs = let b = described (c .before .before .before .before .before .before .before .before .before .before .before .before .pre .0) .bounds in omega (arith, div-le-self (c .before .before .loop .i) (c .before .before .before .before .before .before .before .before .before .before .before .before .args .layout .head .m))
+print-formula-requires c κs = search (some-wide, few-bits, component-low)
 
 add-i : tie.Need-add-i Inv-loop μ-loop
-add-i c = let b = described (c .before .before .before .before .before .before .before .before .before .before .before .before .before .pre .0) .bounds in omega arith
+add-i c = search turn-fits
 
 loop-less : tie.Need-loop-less Inv-loop μ-loop
 loop-less c = search needs

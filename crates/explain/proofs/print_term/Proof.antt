@@ -1,11 +1,8 @@
 -- `explain::print_term` ends, and asks only for variables below the bound.
 -- Assumes nothing.
-use Prim.Native.Nat.{ℕ, _+_, _*_, _-_, _^_, _≤_, _<_}
-use mathlib.Core.Path.{_≡_}
-use native.Mathlib.Omega.{arith}
-use native.Mathlib.Nat.{div-le-self}
+use Prim.Native.Nat.{_-_, _≤_}
 use borrow.Author.Needs.{needs}
-use lib.ListN.{length}
+use Rattle.explain.proofs.Printing.{share-low}
 use Rattle.explain.proofs.print_term.Statement.{statement}
 use Rattle.explain.proofs.print_term.Tie as tie
 
@@ -37,7 +34,7 @@ rem-print-variable : tie.Need-rem-print-variable Inv-loop μ-loop
 rem-print-variable c = search needs
 
 print-variable-requires : tie.Need-print-variable-requires Inv-loop μ-loop
-print-variable-requires c κs = omega (arith, div-le-self (c .before .before .before .loop .i) (c .before .before .before .before .before .args .m))
+print-variable-requires c κs = search share-low
 
 add-i : tie.Need-add-i Inv-loop μ-loop
 add-i c = search needs

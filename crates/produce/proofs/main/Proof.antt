@@ -1,6 +1,6 @@
 -- `produce::main` ends, and writes only what producing states: that length lies within the output.
 -- Assumes nothing.
-use Rattle.producer.proofs.Lengths.{answer-within}
+use Rattle.producer.proofs.Lengths.{answer-within, answer-taken}
 use borrow.Author.Needs.{needs}
 use Rattle.produce.proofs.main.Statement.{statement}
 use Rattle.produce.proofs.main.Tie as tie
@@ -60,10 +60,10 @@ returns-3 : tie.Need-returns-3
 returns-3 c = search needs
 
 array-share-prefix-output : tie.Need-array-share-prefix-output
-array-share-prefix-output c = let p = c .before .before .before .produce in answer-within _ _ _ _ _ _ (p .ensures .1) (p .ensures .0) .0
+array-share-prefix-output c = search answer-within
 
 slice-aggregate-write-all-3 : tie.Need-slice-aggregate-write-all-3
-slice-aggregate-write-all-3 c = let p = c .before .before .before .before .produce in answer-within _ _ _ _ _ _ (p .ensures .1) (p .ensures .0) .1
+slice-aggregate-write-all-3 c = search answer-taken
 
 write-all-requires-3 : tie.Need-write-all-requires-3
 write-all-requires-3 c κs = search needs

@@ -1,39 +1,16 @@
 -- `clear` meets its contract: the bytes passed are zero, the rest is as it was.
-use mathlib.Core.Path.{_≡_, refl}
-use mathlib.Core.List.{_++_}
-use Prim.Native.Nat.{_+_, _-_, _≤_}
+use Prim.Native.Nat.{_-_, _≤_}
 use native.Mathlib.Omega.{arith}
-use lib.ListN.{length, drop, replicate, length-set}
-use borrow.Author.Fill.{fill-more}
+use borrow.Author.Needs.{needs}
+use Rattle.checker.proofs.Zeroed.{ZeroedTo, zeroed-none, zeroed-more, zeroed-all}
 use Rattle.checker.proofs.marks.clear.Statement.{statement}
 use Rattle.checker.proofs.marks.clear.Tie as tie
 
 abbrev Inv-loop : tie.InvT-loop
-Inv-loop marks₀ n i₀ marks i = (i ≤ n) × (length marks ≡ length marks₀) × (marks ≡ replicate i 0 ++ drop i marks₀)
+Inv-loop marks₀ n i₀ marks i = (i ≤ n) × ZeroedTo marks₀ marks i
 
 abbrev μ-loop : tie.MeasureT-loop
 μ-loop marks₀ n i₀ marks i = n - i
-
-loop-holds : tie.Need-loop-holds Inv-loop μ-loop
-loop-holds c = (omega arith, refl, refl)
-
-slice-write-marks : tie.Need-slice-write-marks Inv-loop μ-loop
-slice-write-marks c = omega arith
-
-add-i : tie.Need-add-i Inv-loop μ-loop
-add-i c = omega arith
-
-loop-less : tie.Need-loop-less Inv-loop μ-loop
-loop-less c = omega arith
-
-loop-again : tie.Need-loop-again Inv-loop μ-loop
-loop-again c = (omega arith, simp length-set (c .before .loop .inv .1), rw (c .before .loop .inv .2) (fill-more (c .before .loop .i) 0 (c .before .before .args .marks .now) (omega arith)))
-
-same-length : tie.Need-same-length Inv-loop μ-loop
-same-length c = c .before .loop .inv .1
-
-returns : tie.Need-returns Inv-loop μ-loop
-returns c = let e : c .before .loop .i ≡ c .before .before .args .n = omega arith in rw e at (c .before .loop .inv .2)
 
 pub clear-spec : {M : Type 1} → statement M
 clear-spec =
@@ -41,10 +18,10 @@ clear-spec =
     (tie.spec
     Inv-loop
     μ-loop
-    loop-holds
-    slice-write-marks
-    add-i
-    loop-less
-    loop-again
-    same-length
-    returns)
+    (λ c. search (arith, zeroed-none))
+    (λ c. search needs)
+    (λ c. search needs)
+    (λ c. search needs)
+    (λ c. search (arith, zeroed-more))
+    (λ c. search needs)
+    (λ c. search zeroed-all))

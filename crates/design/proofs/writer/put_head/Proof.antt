@@ -1,66 +1,23 @@
 -- `design::put_head` meets its contract: four stores that follow one another.
-use native.Mathlib.Omega.{arith}
-use lib.ListN.{length-set}
-use native.Mathlib.Numerals.{towards-suc}
-use Rattle.design.specs.Encode.{recordHead}
-use Rattle.design.proofs.Overwriting.{overwrite-sets}
 use borrow.Author.Needs.{needs}
+use Rattle.design.proofs.Overwriting.{second-there, third-there, fourth-there, four-put}
 use Rattle.design.proofs.writer.put_head.Statement.{statement}
 use Rattle.design.proofs.writer.put_head.Tie as tie
-
-cast-out : tie.Need-cast-out
-cast-out c = search needs
-
-slice-write-out : tie.Need-slice-write-out
-slice-write-out c = search needs
-
-cast-out-2 : tie.Need-cast-out-2
-cast-out-2 c = search needs
-
-add-out : tie.Need-add-out
-add-out c = search needs
-
-slice-write-out-2 : tie.Need-slice-write-out-2
-slice-write-out-2 c = simp length-set (omega arith)
-
-cast-out-3 : tie.Need-cast-out-3
-cast-out-3 c = search needs
-
-add-out-2 : tie.Need-add-out-2
-add-out-2 c = search needs
-
-slice-write-out-3 : tie.Need-slice-write-out-3
-slice-write-out-3 c = simp length-set (omega arith)
-
-cast-out-4 : tie.Need-cast-out-4
-cast-out-4 c = search needs
-
-add-out-3 : tie.Need-add-out-3
-add-out-3 c = search needs
-
-slice-write-out-4 : tie.Need-slice-write-out-4
-slice-write-out-4 c = simp length-set (omega arith)
-
-same-length : tie.Need-same-length
-same-length c = search needs
-
-returns : tie.Need-returns
-returns c = simp towards-suc (overwrite-sets (recordHead (c .args .size) (c .args .kind)) _ _ (omega arith))
 
 pub put-head-spec : {M : Type 1} → statement M
 put-head-spec =
     tie.close
     (tie.spec
-    cast-out
-    slice-write-out
-    cast-out-2
-    add-out
-    slice-write-out-2
-    cast-out-3
-    add-out-2
-    slice-write-out-3
-    cast-out-4
-    add-out-3
-    slice-write-out-4
-    same-length
-    returns)
+    (λ c. search needs)
+    (λ c. search needs)
+    (λ c. search needs)
+    (λ c. search needs)
+    (λ c. search second-there)
+    (λ c. search needs)
+    (λ c. search needs)
+    (λ c. search third-there)
+    (λ c. search needs)
+    (λ c. search needs)
+    (λ c. search fourth-there)
+    (λ c. search needs)
+    (λ c. search four-put))

@@ -1,11 +1,12 @@
 -- `place` meets its contract. The invariant: what is left to do from here gives what the whole gives.
-use mathlib.Core.Path.{_≡_, refl, sym, ap, _∙_}
-use Prim.Native.Nat.{ℕ, _-_, _<_, _≤_}
+use mathlib.Core.Path.{_≡_, refl}
+use Prim.Native.Nat.{_-_, _≤_}
 use native.Mathlib.Omega.{arith}
-use lib.ListN.{length, take, length-set}
+use lib.ListN.{length, take}
 use borrow.Author.Needs.{needs}
 use Rattle.producer.specs.Expanding.{inserted}
-use Rattle.producer.proofs.Inserting.{going, going-on, going-end}
+use Rattle.producer.proofs.Inserting.{going}
+use Rattle.producer.proofs.Stepping.{place-on, place-end}
 use Rattle.producer.proofs.expand.place.Statement.{statement}
 use Rattle.producer.proofs.expand.place.Tie as tie
 
@@ -28,16 +29,7 @@ loop-less : tie.Need-loop-less Inv-loop μ-loop
 loop-less c = omega arith
 
 loop-again : tie.Need-loop-again Inv-loop μ-loop
-loop-again c =
-    let r = c .before .before in
-    let i = r .before .before in
-    let s = i .before .before .before .args in
-    let h : i .before .loop .i < s .n = i .loop-test .taken in
-    let k : s .n ≤ length (i .before .loop .list) = omega arith in (
-      omega arith,
-      r .settle .kept .0 ∙ i .before .loop .inv .1,
-      rw (r .settle .ensures .0, r .settle .ensures .1) (going-on (s .n) (i .before .loop .list) (i .before .loop .i) (i .before .loop .carry) h k ∙ i .before .loop .inv .2),
-    )
+loop-again c = (omega arith, cc, search place-on)
 
 mul-list : tie.Need-mul-list Inv-loop μ-loop
 mul-list c = search needs
@@ -46,14 +38,23 @@ slice-write-list : tie.Need-slice-write-list Inv-loop μ-loop
 slice-write-list c = omega arith
 
 same-length : tie.Need-same-length Inv-loop μ-loop
-same-length c = simp length-set (c .before .loop .inv .1)
+same-length c = search needs
 
 returns : tie.Need-returns Inv-loop μ-loop
-returns c =
-    let s = c .before .before .before .args in
-    let e : c .before .loop .i ≡ s .n = omega arith in
-    let h : s .n < length (c .before .loop .list) = omega arith in
-    going-end (s .n) (c .before .loop .list) (c .before .loop .carry) h ∙ ap (λ (k : ℕ). going (s .n) (c .before .loop .list) k (c .before .loop .carry)) (sym e) ∙ c .before .loop .inv .2
+returns c = search place-end
 
 pub place-spec : {M : Type 1} → statement M
-place-spec = tie.close (tie.spec Inv-loop μ-loop loop-holds settle-requires add-i loop-less loop-again mul-list slice-write-list same-length returns)
+place-spec =
+    tie.close
+    (tie.spec
+    Inv-loop
+    μ-loop
+    loop-holds
+    settle-requires
+    add-i
+    loop-less
+    loop-again
+    mul-list
+    slice-write-list
+    same-length
+    returns)

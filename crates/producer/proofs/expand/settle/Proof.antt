@@ -1,10 +1,6 @@
 -- `settle` meets its contract, by the two cases of the comparison.
-use mathlib.Core.Path.{_≡_, refl, sym, _∙_}
-use mathlib.Core.Bool.{true, false}
-use lib.ListN.{getD}
-use lib.Seq.{set-getD}
 use borrow.Author.Needs.{needs}
-use Rattle.anf.specs.Terms.{before}
+use Rattle.producer.proofs.Stepping.{first-answer, first-list, second-answer, second-list}
 use Rattle.producer.proofs.expand.settle.Statement.{statement}
 use Rattle.producer.proofs.expand.settle.Tie as tie
 
@@ -27,16 +23,20 @@ same-length : tie.Need-same-length
 same-length c = search needs
 
 returns : tie.Need-returns
-returns c =
-    let s = c .before .before .before .before .args in
-    let e : before (s .t) (getD (s .list .now) (s .i) 0) ≡ true = sym (c .before .stands-before .ensures) ∙ c .if1 .taken in
-    rw e (refl, refl)
+returns c = (search first-answer, search first-list)
 
 returns-2 : tie.Need-returns-2
-returns-2 c =
-    let s = c .before .before .before .before .args in
-    let e : before (s .t) (getD (s .list .now) (s .i) 0) ≡ false = sym (c .before .stands-before .ensures) ∙ c .if1 .left in
-    rw e (refl, sym (set-getD (s .list .now) (s .i) 0))
+returns-2 c = (search second-answer, search second-list)
 
 pub settle-spec : {M : Type 1} → statement M
-settle-spec = tie.close (tie.spec mul-x slice-read-x stands-before-requires mul-list slice-write-list same-length returns returns-2)
+settle-spec =
+    tie.close
+    (tie.spec
+    mul-x
+    slice-read-x
+    stands-before-requires
+    mul-list
+    slice-write-list
+    same-length
+    returns
+    returns-2)

@@ -1,13 +1,12 @@
 -- `lists_size` meets its contract. The invariant: the records of the first i lists are counted.
-use mathlib.Core.Path.{_≡_, refl, sym, ap, _∙_, subst}
-use Prim.Native.Nat.{ℕ, _-_, _*_, _≤_}
-use native.Mathlib.Nat.{mod-lt}
+use mathlib.Core.Path.{_≡_, refl}
+use Prim.Native.Nat.{_-_, _*_, _≤_}
 use native.Mathlib.Omega.{arith}
 use lib.ListN.{length, getD, take}
-use Rattle.design.proofs.Limits.{bounds}
 use Rattle.producer.specs.Direct.{directLists}
-use Rattle.producer.specs.Expanding.{Gathers, listRecords}
-use Rattle.producer.proofs.Writing.{records-none, size-more, size-all}
+use Rattle.producer.specs.Expanding.{listRecords}
+use Rattle.producer.proofs.Filing.{none-counted, bits-fit, some-bit, bit-within, gathers-still, turn-fits, size-fits, size-fits-more, terms-fit, bound-more, size-bound}
+use Rattle.producer.proofs.Writing.{size-more, size-all}
 use Rattle.producer.proofs.file.lists_size.Statement.{statement}
 use Rattle.producer.proofs.file.lists_size.Tie as tie
 
@@ -19,48 +18,43 @@ abbrev μ-loop : tie.MeasureT-loop
 μ-loop rule m s words list₀ n size₀ i₀ list size i = n - i
 
 mul-n : tie.Need-mul-n Inv-loop μ-loop
-mul-n c = omega (arith, bounds (c .before .before .before .args .m) (c .before .before .before .args .s) 1 (c .before .before .before .pre .limits) .bits)
+mul-n c = search bits-fit
 
 loop-holds : tie.Need-loop-holds Inv-loop μ-loop
-loop-holds c = (omega arith, refl, sym (ap length (records-none (directLists (c .before .before .before .args .m) (c .before .before .before .args .s) (λ u. getD (c .before .before .before .args .words .now) u 0)))), omega arith)
+loop-holds c = (omega arith, refl, none-counted, omega arith)
 
 div-gather : tie.Need-div-gather Inv-loop μ-loop
-div-gather c = omega (arith, bounds (c .before .before .before .before .before .args .m) (c .before .before .before .before .before .args .s) 1 (c .before .before .before .before .before .pre .limits) .m-low)
+div-gather c = search some-bit
 
 rem-gather : tie.Need-rem-gather Inv-loop μ-loop
-rem-gather c = omega (arith, bounds (c .before .before .before .before .before .args .m) (c .before .before .before .before .before .args .s) 1 (c .before .before .before .before .before .pre .limits) .m-low)
+rem-gather c = search some-bit
 
 gather-requires : tie.Need-gather-requires Inv-loop μ-loop
-gather-requires c κs = (mod-lt (c .before .before .loop .i) (omega (arith, bounds (c .before .before .before .before .before .before .args .m) (c .before .before .before .before .before .before .args .s) 1 (c .before .before .before .before .before .before .pre .limits) .m-low)), subst (λ (k : ℕ). Gathers (c .before .before .before .before .before .before .args .rule .now) (c .before .before .before .before .before .before .args .m) (c .before .before .before .before .before .before .args .s) (length (c .before .before .before .before .before .before .args .words .now)) k) (sym (c .before .before .loop .inv .1)) (c .before .before .before .before .before .before .pre))
+gather-requires c κs = (search bit-within, search gathers-still)
 
 add-size : tie.Need-add-size Inv-loop μ-loop
-add-size c = omega (arith, c .before .before .before .before .before .loop .inv .3, bounds (c .before .before .before .before .before .before .before .before .before .args .m) (c .before .before .before .before .before .before .before .before .before .args .s) 1 (c .before .before .before .before .before .before .before .before .before .pre .limits) .bits, c .before .before .before .before .loop-test .taken)
+add-size c = search size-fits
 
 mul-size : tie.Need-mul-size Inv-loop μ-loop
-mul-size c = omega (arith, c .before .before .gather .ensures .0 .1)
+mul-size c = search terms-fit
 
 add-size-2 : tie.Need-add-size-2 Inv-loop μ-loop
-add-size-2 c = omega (arith, c .before .before .before .before .before .loop .inv .3, bounds (c .before .before .before .before .before .before .before .before .before .args .m) (c .before .before .before .before .before .before .before .before .before .args .s) 1 (c .before .before .before .before .before .before .before .before .before .pre .limits) .bits, c .before .before .before .before .loop-test .taken, c .before .before .gather .ensures .0 .1)
+add-size-2 c = search size-fits-more
 
 add-i : tie.Need-add-i Inv-loop μ-loop
-add-i c = omega (arith, bounds (c .before .before .before .before .before .before .before .before .before .args .m) (c .before .before .before .before .before .before .before .before .before .args .s) 1 (c .before .before .before .before .before .before .before .before .before .pre .limits) .bits, c .before .before .before .before .loop-test .taken)
+add-i c = search turn-fits
 
 loop-less : tie.Need-loop-less Inv-loop μ-loop
 loop-less c = omega arith
 
 loop-again : tie.Need-loop-again Inv-loop μ-loop
-loop-again c = (
-  omega arith,
-  c .before .before .gather .kept .1 .1 .1 .1 .1 .1 .0 ∙ c .before .before .before .before .before .loop .inv .1,
-  size-more (c .before .before .before .before .before .before .before .before .before .args .m) (c .before .before .before .before .before .before .before .before .before .args .s) (λ u. getD (c .before .before .before .before .before .before .before .before .before .args .words .now) u 0) (c .before .before .before .before .before .loop .i) _ (c .before .before .before .before .before .loop .size) (c .before .before .gather .result) refl (c .before .before .before .before .loop-test .taken) (c .before .before .before .before .before .loop .inv .2) (c .before .before .gather .ensures .0 .0),
-  omega (arith, c .before .before .before .before .before .loop .inv .3, c .before .before .gather .ensures .0 .1),
-)
+loop-again c = (omega arith, cc, search size-more, search bound-more)
 
 same-length : tie.Need-same-length Inv-loop μ-loop
-same-length c = c .before .loop .inv .1
+same-length c = search
 
 returns : tie.Need-returns Inv-loop μ-loop
-returns c = (c .before .loop .inv .2 ∙ size-all (c .before .before .before .before .before .args .m) (c .before .before .before .before .before .args .s) (λ u. getD (c .before .before .before .before .before .args .words .now) u 0) (c .before .loop .i) _ refl (omega arith), omega (arith, c .before .loop .inv .3, bounds (c .before .before .before .before .before .args .m) (c .before .before .before .before .before .args .s) 1 (c .before .before .before .before .before .pre .limits) .bits))
+returns c = (search size-all, search size-bound)
 
 pub lists-size-spec : {M : Type 1} → statement M
 lists-size-spec =

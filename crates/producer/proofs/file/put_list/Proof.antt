@@ -1,11 +1,10 @@
 -- `put_list` meets its contract. The invariant: the first j terms are written.
-use mathlib.Core.Path.{_≡_, refl, ap, _∙_}
-use mathlib.Core.List.{List}
-use Prim.Native.Nat.{ℕ, _+_, _-_, _≤_}
+use mathlib.Core.Path.{_≡_, refl}
+use Prim.Native.Nat.{_+_, _-_, _≤_}
 use native.Mathlib.Omega.{arith}
-use lib.ListN.{length, take, length-take}
+use lib.ListN.{length, take}
 use Rattle.design.specs.Bytes.{termBytes, overwrite}
-use Rattle.producer.proofs.Writing.{term-put, terms-none, list-record, list-record-length}
+use Rattle.producer.proofs.Filing.{no-term, term-room, term-more, list-end, list-put}
 use Rattle.producer.proofs.file.put_list.Statement.{statement}
 use Rattle.producer.proofs.file.put_list.Tie as tie
 
@@ -23,7 +22,7 @@ put-head-requires : tie.Need-put-head-requires Inv-loop μ-loop
 put-head-requires c κs = omega arith
 
 loop-holds : tie.Need-loop-holds Inv-loop μ-loop
-loop-holds c = (omega arith, refl, terms-none _ (c .before .before .before .before .before .before .args .list .now) (c .before .before .before .before .before .before .args .at + 4))
+loop-holds c = (omega arith, refl, search no-term)
 
 add-put-term : tie.Need-add-put-term Inv-loop μ-loop
 add-put-term c = omega arith
@@ -41,7 +40,7 @@ shared-slice-read-put-term : tie.Need-shared-slice-read-put-term Inv-loop μ-loo
 shared-slice-read-put-term c = omega arith
 
 put-term-requires : tie.Need-put-term-requires Inv-loop μ-loop
-put-term-requires c κs = omega (arith, c .before .before .before .loop .inv .1, c .before .before .before .before .before .before .put-head .kept .0)
+put-term-requires c κs = search term-room
 
 add-j : tie.Need-add-j Inv-loop μ-loop
 add-j c = omega arith
@@ -50,11 +49,7 @@ loop-less : tie.Need-loop-less Inv-loop μ-loop
 loop-less c = omega arith
 
 loop-again : tie.Need-loop-again Inv-loop μ-loop
-loop-again c = (
-  omega arith,
-  c .before .before .put-term .kept .0 ∙ c .before .before .before .before .before .before .loop .inv .1,
-  c .before .before .put-term .ensures ∙ term-put (c .before .before .before .before .before .before .loop .out) _ (c .before .before .before .before .before .before .before .before .before .before .before .before .before .args .list .now) (c .before .before .before .before .before .before .before .before .before .before .before .before .before .args .at + 4) (c .before .before .before .before .before .before .loop .j) (omega arith) (omega (arith, c .before .before .before .before .before .before .before .before .before .put-head .kept .0)) (c .before .before .before .before .before .before .loop .inv .2),
-)
+loop-again c = (omega arith, cc, search term-more)
 
 add-result : tie.Need-add-result Inv-loop μ-loop
 add-result c = omega arith
@@ -66,18 +61,10 @@ add-result-2 : tie.Need-add-result-2 Inv-loop μ-loop
 add-result-2 c = omega arith
 
 same-length : tie.Need-same-length Inv-loop μ-loop
-same-length c = c .before .loop .inv .1 ∙ c .before .before .before .before .put-head .kept .0
+same-length c = cc
 
 returns : tie.Need-returns Inv-loop μ-loop
-returns c =
-    let e : c .before .loop .j ≡ c .before .before .before .before .before .before .before .before .args .n = omega arith in
-    let h : c .before .before .before .before .before .before .before .before .args .n ≤ length (c .before .before .before .before .before .before .before .before .args .list .now) = omega arith in (
-      omega (arith, list-record-length (take (c .before .before .before .before .before .before .before .before .args .n) (c .before .before .before .before .before .before .before .before .args .list .now)), length-take (c .before .before .before .before .before .before .before .before .args .n) (c .before .before .before .before .before .before .before .before .args .list .now)),
-      c .before .loop .inv .2
-          ∙ ap (λ (k : ℕ). overwrite (c .before .before .before .before .put-head .last .0) (c .before .before .before .before .before .before .before .before .args .at + 4) (termBytes (take k (c .before .before .before .before .before .before .before .before .args .list .now)))) e
-          ∙ ap (λ (o : List ℕ). overwrite o (c .before .before .before .before .before .before .before .before .args .at + 4) (termBytes (take (c .before .before .before .before .before .before .before .before .args .n) (c .before .before .before .before .before .before .before .before .args .list .now)))) (c .before .before .before .before .put-head .ensures)
-          ∙ list-record (c .before .before .before .before .before .before .before .before .args .out .now) (c .before .before .before .before .before .before .before .before .args .list .now) (c .before .before .before .before .before .before .before .before .args .at) (c .before .before .before .before .before .before .before .before .args .n) h (omega arith),
-    )
+returns c = (search list-end, search list-put)
 
 pub put-list-spec : {M : Type 1} → statement M
 put-list-spec =

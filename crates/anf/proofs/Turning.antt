@@ -1,0 +1,172 @@
+-- The loops and branches of the crate over plain values, for each a law for its start, a turn and its end: t is the table, i how many entries are passed.
+-- Assumes nothing.
+use mathlib.Core.Path.{_≡_, refl, sym, ap₂, _∙_}
+use mathlib.Core.Bool.{Bool, true, false}
+use mathlib.Core.List.{List, _++_}
+use Prim.Native.Nat.{ℕ, _+_, _*_, _%_, _^_, _≤_, _<_, max}
+use native.Mathlib.Nat.{one-mul}
+use native.Mathlib.Omega.{arith}
+use lib.Bits.{bitAnd, bitXor}
+use lib.Count.{ones, ones-le}
+use lib.Dec.{eqb, ltb, lit<}
+use lib.Pow.{shl-exact}
+use lib.ListN.{length, getD, set, drop, length-set}
+use borrow.Author.Tests.{lt-ltb, le-ltb, eq-eqb, ne-eqb}
+use borrow.Rule.Slice.Know.{Fit}
+use borrow.Table.Referent.{fInt}
+use mir.Syntax.{w8, w64}
+use mir.Val.{Fits}
+use Rattle.anf.specs.Tests.{pick, all, any, tabulate}
+use Rattle.anf.specs.Sums.{xorBelow}
+use Rattle.anf.specs.NormalForm.{subset, largest}
+use Rattle.anf.specs.Tables.{entriesBelow, standsBelow, repeats, wordsDegree}
+use Rattle.anf.specs.Transform.{sumAt}
+use Rattle.anf.proofs.Testing.{pick-true, pick-false, all-more, all-fails, any-at, any-none-more, tabulate-more}
+use Rattle.anf.proofs.Sums.{xorBelow-step}
+use Rattle.anf.proofs.Subsets.{eq-subset, ne-subset}
+use Rattle.anf.proofs.Degree.{largest-more}
+
+-- ---- `points`: the shift loses no bit
+
+pub shifted : (m : ℕ) → m < 64 → 1 * 2 ^ m % 2 ^ 64 ≡ 2 ^ m
+shifted m h = shl-exact 1 m 64 (lit< tt) (omega arith) ∙ one-mul _
+
+-- ---- `entries_below`: the entries passed are below the bound
+
+pub record PassedBelow (t : List ℕ) (bound i : ℕ) : Type 0 where
+  pub so : all i (λ k. ltb (getD t k 0) bound) ≡ true
+
+pub byte-fits : (t : List ℕ) (i : ℕ) → Fit (fInt w8) 0 t → Fits w64 (getD t i 0)
+byte-fits t i bytes = record { fits = omega (arith, bytes i) }
+
+module _ (t : List ℕ) (bound : ℕ) where
+  pub below-start : PassedBelow t bound 0
+  unfolding all
+  below-start = record { so = refl }
+
+  pub below-fails : (i : ℕ) → i < length t → bound ≤ getD t i 0 → false ≡ entriesBelow t bound
+  unfolding entriesBelow
+  below-fails i h k = sym (all-fails (length t) _ i h (le-ltb _ _ k))
+
+  pub below-more : (i : ℕ) → PassedBelow t bound i → getD t i 0 < bound → PassedBelow t bound (i + 1)
+  below-more i p k = record { so = all-more i _ (p .so) (lt-ltb _ _ k) }
+
+  pub below-end : (i : ℕ) → PassedBelow t bound i → i ≤ length t → length t ≤ i → true ≡ entriesBelow t bound
+  unfolding entriesBelow
+  below-end i p a b = let e : i ≡ length t = omega arith in sym (rw e at (p .so))
+
+-- ---- `stands_below`: no entry passed is the one at i
+
+pub record PassedOther (t : List ℕ) (i y : ℕ) : Type 0 where
+  pub so : any y (λ k. eqb (getD t k 0) (getD t i 0)) ≡ false
+
+module _ (t : List ℕ) (i : ℕ) where
+  pub other-start : PassedOther t i 0
+  unfolding any
+  other-start = record { so = refl }
+
+  pub other-fails : (y : ℕ) → y < i → getD t y 0 ≡ getD t i 0 → true ≡ standsBelow t i
+  unfolding standsBelow
+  other-fails y h e = sym (any-at i _ y h (eq-eqb _ _ e))
+
+  pub other-more : (y : ℕ) → PassedOther t i y → (getD t y 0 ≡ getD t i 0 → ⊥) → PassedOther t i (y + 1)
+  other-more y p n = record { so = any-none-more y _ (p .so) (ne-eqb _ _ n) }
+
+  pub other-end : (y : ℕ) → PassedOther t i y → y ≤ i → i ≤ y → false ≡ standsBelow t i
+  unfolding standsBelow
+  other-end y p a b = let e : y ≡ i = omega arith in sym (rw e at (p .so))
+
+-- ---- `repeats`: none of the entries passed stands at a lower index too; r is whether the next does
+
+pub record PassedOnce (t : List ℕ) (i : ℕ) : Type 0 where
+  pub so : any i (λ x. any x (λ y. eqb (getD t y 0) (getD t x 0))) ≡ false
+
+module _ (t : List ℕ) where
+  pub once-start : PassedOnce t 0
+  unfolding any
+  once-start = record { so = refl }
+
+  pub once-end : (i : ℕ) → PassedOnce t i → i ≤ length t → length t ≤ i → false ≡ repeats (length t) t
+  unfolding repeats
+  once-end i p a b = let e : i ≡ length t = omega arith in sym (rw e at (p .so))
+
+  module _ (i : ℕ) (r : Bool) (e : r ≡ standsBelow t i) where
+    pub once-fails : r ≡ true → i < length t → true ≡ repeats (length t) t
+    unfolding repeats standsBelow
+    once-fails q h = sym (any-at (length t) _ i h (sym e ∙ q))
+
+    pub once-more : r ≡ false → PassedOnce t i → PassedOnce t (i + 1)
+    unfolding standsBelow
+    once-more q p = record { so = any-none-more i _ (p .so) (sym e ∙ q) }
+
+-- ---- `variables`, `words_degree`: d is the degree that the words passed give
+
+-- a set of 32 bits has at most 32 variables
+pub ones-fit : (u : ℕ) → u < 2 ^ 32 → Fits w64 (ones u)
+ones-fit u h = record { fits = omega (arith, ones-le 32 u h) }
+
+module _ (word u : ℕ) where
+  pub no-variable : word ≡ 0 → 0 ≡ pick (eqb word 0) 0 (ones u)
+  no-variable e = sym (pick-true _ _ _ (eq-eqb _ _ e))
+
+  pub all-variables : (word ≡ 0 → ⊥) → ones u ≡ pick (eqb word 0) 0 (ones u)
+  all-variables n = sym (pick-false _ _ _ (ne-eqb _ _ n))
+
+pub record DegreeOf (words : List ℕ) (u d : ℕ) : Type 0 where
+  pub is : d ≡ largest u (λ v. pick (eqb (getD words v 0) 0) 0 (ones v))
+
+module _ (words : List ℕ) where
+  pub degree-start : DegreeOf words 0 0
+  unfolding largest
+  degree-start = record { is = refl }
+
+  module _ (u d : ℕ) (p : DegreeOf words u d) where
+    pub degree-more : (v e : ℕ) → v ≡ pick (eqb (getD words u 0) 0) 0 (ones u) → e ≡ max d v → DegreeOf words (u + 1) e
+    degree-more v e q r = record { is = r ∙ ap₂ max (p .is) q ∙ sym (largest-more u _) }
+
+    pub degree-end : u ≤ length words → length words ≤ u → d ≡ wordsDegree words
+    unfolding wordsDegree
+    degree-end a b = let e : u ≡ length words = omega arith in rw e at (p .is)
+
+-- ---- `kept`, `subset_sum`: s is the sum of the entries passed at subsets of u
+
+module _ (word v u : ℕ) where
+  pub kept-subset : bitAnd v u ≡ v → word ≡ pick (subset v u) word 0
+  kept-subset e = sym (pick-true _ _ _ (eq-subset v u e))
+
+  pub kept-none : (bitAnd v u ≡ v → ⊥) → 0 ≡ pick (subset v u) word 0
+  kept-none n = sym (pick-false _ _ _ (ne-subset v u n))
+
+pub record SumOf (t : List ℕ) (u v s : ℕ) : Type 0 where
+  pub is : s ≡ xorBelow v (λ k. pick (subset k u) (getD t k 0) 0)
+
+module _ (t : List ℕ) (u : ℕ) where
+  pub sum-start : SumOf t u 0 0
+  unfolding xorBelow
+  sum-start = record { is = refl }
+
+  module _ (v s : ℕ) (p : SumOf t u v s) where
+    pub sum-more : (x : ℕ) → x ≡ pick (subset v u) (getD t v 0) 0 → SumOf t u (v + 1) (bitXor s x)
+    sum-more x e = record { is = xorBelow-step v _ s _ x (p .is) refl (sym e) }
+
+    pub sum-end : v ≤ length t → length t ≤ v → s ≡ sumAt t u
+    unfolding sumAt
+    sum-end a b = let e : v ≡ length t = omega arith in rw e at (p .is)
+
+-- ---- `write_sums`: the sums passed are written over o₀, and what follows is untouched
+
+pub record Written (t o₀ o : List ℕ) (u : ℕ) : Type 0 where
+  pub size : length o ≡ length o₀
+  pub is : o ≡ tabulate u (sumAt t) ++ drop u o₀
+
+module _ (t o₀ : List ℕ) where
+  pub written-start : Written t o₀ o₀ 0
+  unfolding tabulate
+  written-start = record { size = refl; is = refl }
+
+  module _ (o : List ℕ) (u : ℕ) (w : Written t o₀ o u) where
+    pub written-more : (n : ℕ) → u < n → n ≤ length o₀ → (s : ℕ) → s ≡ sumAt t u → Written t o₀ (set o u s) (u + 1)
+    written-more n h k s e = record { size = simp length-set (w .size); is = rw (w .is, e) (tabulate-more u (sumAt t) o₀ (omega arith)) }
+
+    pub written-end : (n : ℕ) → u ≤ n → n ≤ u → o ≡ tabulate n (sumAt t) ++ drop n o₀
+    written-end n a b = let e : u ≡ n = omega arith in rw e at (w .is)

@@ -1,0 +1,59 @@
+-- `share_permutation` meets its contract: each way out is a law of `Leaving`, whose premises `search` finds among what is known there.
+use borrow.Author.Needs.{needs}
+use Rattle.producer.proofs.Answering.{answered}
+use Rattle.producer.proofs.Leaving.{points-within, words-within, degree-high, passes-all}
+use Rattle.producer.proofs.share_permutation.Statement.{statement}
+use Rattle.producer.proofs.share_permutation.Tie as tie
+
+slice-aggregate-to-coefficients : tie.Need-slice-aggregate-to-coefficients
+slice-aggregate-to-coefficients c = search needs
+
+to-coefficients-requires : tie.Need-to-coefficients-requires
+to-coefficients-requires c κs = search needs
+
+sub-words-degree : tie.Need-sub-words-degree
+sub-words-degree c = search needs
+
+part-words-degree-start : tie.Need-part-words-degree-start
+part-words-degree-start c = search needs
+
+part-words-degree-end : tie.Need-part-words-degree-end
+part-words-degree-end c = search points-within
+
+words-degree-requires : tie.Need-words-degree-requires
+words-degree-requires c κs = search words-within
+
+refusal-requires : tie.Need-refusal-requires
+refusal-requires c κs = search needs
+
+returns : tie.Need-returns
+returns c = answered (search degree-high)
+
+slice-aggregate-share : tie.Need-slice-aggregate-share
+slice-aggregate-share c = search needs
+
+share-requires : tie.Need-share-requires
+share-requires c κs = search passes-all
+
+same-length : tie.Need-same-length
+same-length c = search needs
+
+returns-2 : tie.Need-returns-2
+returns-2 c = search needs
+
+pub share-permutation-spec : {M : Type 1} → statement M
+share-permutation-spec =
+    tie.close
+    (tie.spec
+    slice-aggregate-to-coefficients
+    to-coefficients-requires
+    sub-words-degree
+    part-words-degree-start
+    part-words-degree-end
+    words-degree-requires
+    refusal-requires
+    returns
+    slice-aggregate-share
+    share-requires
+    same-length
+    returns-2)

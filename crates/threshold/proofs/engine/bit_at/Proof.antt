@@ -1,0 +1,13 @@
+-- `threshold::bit_at` meets its contract.
+use borrow.Author.Needs.{needs}
+use Rattle.threshold.proofs.Walk.{bit-is, bit-small}
+use Rattle.threshold.proofs.engine.bit_at.Statement.{statement}
+use Rattle.threshold.proofs.engine.bit_at.Tie as tie
+
+pub bit-at-spec : {M : Type 1} → statement M
+bit-at-spec =
+    tie.close
+    (tie.spec
+    (λ c κs. search needs)
+    (λ c κs. search needs)
+    (λ c. search (bit-small, bit-is)))
