@@ -1,18 +1,21 @@
 -- What the passages answer and leave, one law for each way out; and that one after the other gives the input back.
 use mathlib.Core.Path.{_≡_, refl, sym, ap, _∙_}
 use mathlib.Core.Bool.{Bool, true, false, not, _||_}
-use mathlib.Core.List.{List, _++_}
+use mathlib.Core.List.{List, _++_, _∷_, []}
 use Prim.Native.Nat.{ℕ, _^_, _≤_, _<_}
 use native.Mathlib.Omega.{arith}
 use lib.Dec.{eqb, ltb}
 use lib.ListN.{length, getD, take, drop}
 use lib.Seq.{ext-getD, take-at}
-use borrow.Author.Tests.{lt-ltb, le-ltb, eq-eqb, ne-eqb, ltb-false, eqb-true, not-true, not-false}
-use Rattle.anf.specs.Tests.{pick, tabulate}
+use borrow.Author.Tests.{lt-ltb, le-ltb, eq-eqb, ne-eqb, ltb-false, eqb-true, not-false}
+use Rattle.finite.specs.Tests.{tabulate}
+use Rattle.finite.specs.Faults.{firstFault}
+use Rattle.finite.proofs.Testing.{or-false, tabulate-congr, tabulate-length, tabulate-at, or-none, or-left, or-right}
+use Rattle.finite.proofs.Faults.{fault-here, fault-past, no-fault, fault-none}
 use Rattle.anf.specs.NormalForm.{subsetSum, degree}
-use Rattle.anf.specs.Tables.{entriesBelow, wordsDegree}
-use Rattle.anf.specs.Transform.{greatestWidth, transformReason, transformAfter, transformed, sumAt}
-use Rattle.anf.proofs.Testing.{or-false, tabulate-congr, tabulate-length, tabulate-at}
+use Rattle.anf.specs.Tables.{entriesBelow}
+use Rattle.anf.specs.inside.Words.{wordsDegree, sumAt}
+use Rattle.anf.specs.Transform.{greatestWidth, transformReason, transformAfter, transformed}
 use Rattle.anf.proofs.Transform.{subsetSum-twice, subsetSum-ext, subsetSum-lt}
 use Rattle.anf.proofs.Tables.{entries-at, entries-intro, words-degree}
 
@@ -29,74 +32,72 @@ pub record Answered (m : ℕ) (t out : List ℕ) (r : ℕ) (after : List ℕ) : 
 pub answered : {m : ℕ} {t out : List ℕ} {r : ℕ} {after : List ℕ} → Answered m t out r after → (r ≡ transformReason m t (length out)) × (after ≡ transformAfter m t out)
 answered a = (a .reason, a .left)
 
+-- a refusal leaves the output as it was
+refuses : (m : ℕ) (t out : List ℕ) (r : ℕ) → transformReason m t (length out) ≡ r → (r ≡ 0 → ⊥) → Answered m t out r out
+unfolding transformAfter
+refuses m t out r e n = record { reason = sym e; left = rw (e, ne-eqb r 0 n) refl }
+
 module _ (m : ℕ) (t out : List ℕ) where
   pub narrow : m < 1 → Answered m t out 4 out
-  unfolding transformReason transformAfter
-  narrow a = record { reason = simp (lt-ltb _ _ a); left = simp (lt-ltb _ _ a) }
+  narrow a = refuses m t out 4 (unfold transformReason in fault-here _ 4 _ 0 (or-left _ _ (lt-ltb _ _ a))) (omega arith)
 
   module _ (a : 1 ≤ m) where
     pub wide : greatestWidth < m → Answered m t out 4 out
-    unfolding transformReason transformAfter
-    wide b = record { reason = simp (le-ltb _ _ a, lt-ltb _ _ b); left = simp (le-ltb _ _ a, lt-ltb _ _ b) }
+    wide b = refuses m t out 4 (unfold transformReason in fault-here _ 4 _ 0 (or-right (ltb m 1) _ (lt-ltb _ _ b))) (omega arith)
 
     module _ (b : m ≤ greatestWidth) (n : ℕ) (e : n ≡ 2 ^ m) where
+      width : (ltb m 1 || ltb greatestWidth m) ≡ false
+      width = or-none (le-ltb _ _ a) (le-ltb _ _ b)
+
       pub uneven : (length t ≡ n → ⊥) → Answered m t out 3 out
-      unfolding transformReason transformAfter
       uneven f =
-          let g : length t ≡ 2 ^ m → ⊥ = λ h. f (h ∙ sym e) in
-          record { reason = simp (le-ltb _ _ a, le-ltb _ _ b, ne-eqb _ _ g); left = simp (le-ltb _ _ a, le-ltb _ _ b, ne-eqb _ _ g) }
+          refuses m t out 3 (unfold transformReason in fault-past _ 4 _ 0 width ∙ fault-here _ 3 _ 0 (ap not (ne-eqb _ _ (λ h. f (h ∙ sym e))))) (omega arith)
 
       module _ (l : length t ≡ n) (s : Bool) (es : s ≡ entriesBelow t n) where
+        size : not (eqb (length t) (2 ^ m)) ≡ false
+        size = ap not (eq-eqb _ _ (l ∙ e))
+
+        entries : entriesBelow t (2 ^ m) ≡ s
+        entries = ap (entriesBelow t) (sym e) ∙ sym es
+
         pub large : not s ≡ true → Answered m t out 5 out
-        unfolding transformReason transformAfter
         large f =
-            let g : length t ≡ 2 ^ m = l ∙ e in
-            let h : entriesBelow t (2 ^ m) ≡ false = ap (entriesBelow t) (sym e) ∙ sym es ∙ not-true s f in
-            record { reason = simp (le-ltb _ _ a, le-ltb _ _ b, eq-eqb _ _ g, h); left = simp (le-ltb _ _ a, le-ltb _ _ b, eq-eqb _ _ g, h) }
+            refuses m t out 5 (unfold transformReason in fault-past _ 4 _ 0 width ∙ fault-past _ 3 _ 0 size ∙ fault-here _ 5 _ 0 (ap not entries ∙ f)) (omega arith)
 
         module _ (y : not s ≡ false) where
+          last : transformReason m t (length out) ≡ firstFault ((ltb (length out) (2 ^ m), 17) ∷ []) 0
+          last = unfold transformReason in fault-past _ 4 _ 0 width ∙ fault-past _ 3 _ 0 size ∙ fault-past _ 5 _ 0 (ap not entries ∙ y)
+
           pub short : length out < n → Answered m t out 17 out
-          unfolding transformReason transformAfter
-          short f =
-              let g : length t ≡ 2 ^ m = l ∙ e in
-              let h : entriesBelow t (2 ^ m) ≡ true = ap (entriesBelow t) (sym e) ∙ sym es ∙ not-false s y in
-              let k : length out < 2 ^ m = rw e at f in
-              record { reason = simp (le-ltb _ _ a, le-ltb _ _ b, eq-eqb _ _ g, h, lt-ltb _ _ k); left = simp (le-ltb _ _ a, le-ltb _ _ b, eq-eqb _ _ g, h, lt-ltb _ _ k) }
+          short f = let k : length out < 2 ^ m = rw e at f in refuses m t out 17 (last ∙ fault-here _ 17 _ 0 (lt-ltb _ _ k)) (omega arith)
 
           pub done : n ≤ length out → (after : List ℕ) → after ≡ tabulate n (sumAt t) ++ drop n out → Answered m t out 0 after
-          unfolding transformReason transformAfter
+          unfolding transformAfter
           done f after d =
-              let g : length t ≡ 2 ^ m = l ∙ e in
-              let h : entriesBelow t (2 ^ m) ≡ true = ap (entriesBelow t) (sym e) ∙ sym es ∙ not-false s y in
               let k : 2 ^ m ≤ length out = rw e at f in
+              let r : transformReason m t (length out) ≡ 0 = last ∙ fault-past _ 17 _ 0 (le-ltb _ _ k) ∙ fault-none 0 in
               let q : tabulate n (sumAt t) ++ drop n out ≡ transformed m t ++ drop (2 ^ m) out =
-              rw e (ap (λ (x : List ℕ). x ++ drop (2 ^ m) out) (tabulate-congr (2 ^ m) (sumAt t) (subsetSum m (λ v. getD t v 0)) (λ u p. sumAt-subsetSum m t u g))) in
-              record {
-                reason = simp (le-ltb _ _ a, le-ltb _ _ b, eq-eqb _ _ g, h, le-ltb _ _ k);
-                left = d ∙ q ∙ simp (le-ltb _ _ a, le-ltb _ _ b, eq-eqb _ _ g, h, le-ltb _ _ k);
-              }
+              rw e (ap (λ (x : List ℕ). x ++ drop (2 ^ m) out)
+              (tabulate-congr (2 ^ m) (sumAt t) (subsetSum m (λ v. getD t v 0)) (λ u p. sumAt-subsetSum m t u (l ∙ e)))) in
+              record { reason = sym r; left = d ∙ q ∙ sym (rw r refl) }
 
 -- ---- what is accepted, and that the passages undo each other
 
--- a refusal that is not given: its test does not pass, and what follows gives none
-pub no-refusal : (b : Bool) (r rest : ℕ) → 0 < r → pick b r rest ≡ 0 → (b ≡ false) × (rest ≡ 0)
-no-refusal true r rest p e = absurd (omega arith)
-no-refusal false r rest p e = (refl, e)
-
-pub record Accepted (m : ℕ) (input : List ℕ) (room : ℕ) : Type 0 where
+-- every test has passed
+pub record Passes (m : ℕ) (input : List ℕ) (room : ℕ) : Type 0 where
   pub least : 1 ≤ m
   pub most : m ≤ greatestWidth
   pub size : length input ≡ 2 ^ m
   pub below : entriesBelow input (2 ^ m) ≡ true
   pub room-enough : 2 ^ m ≤ room
 
-pub reason-accepted : (m : ℕ) (input : List ℕ) (room : ℕ) → transformReason m input room ≡ 0 → Accepted m input room
+pub reason-passes : (m : ℕ) (input : List ℕ) (room : ℕ) → transformReason m input room ≡ 0 → Passes m input room
 unfolding transformReason
-reason-accepted m input room e =
-    let p = no-refusal (ltb m 1 || ltb greatestWidth m) 4 _ (omega arith) e in
-    let q = no-refusal (not (eqb (length input) (2 ^ m))) 3 _ (omega arith) (p .1) in
-    let r = no-refusal (not (entriesBelow input (2 ^ m))) 5 _ (omega arith) (q .1) in
-    let s = no-refusal (ltb room (2 ^ m)) 17 0 (omega arith) (r .1) in
+reason-passes m input room e =
+    let p = no-fault (ltb m 1 || ltb greatestWidth m) 4 _ (omega arith) e in
+    let q = no-fault (not (eqb (length input) (2 ^ m))) 3 _ (omega arith) (p .1) in
+    let r = no-fault (not (entriesBelow input (2 ^ m))) 5 _ (omega arith) (q .1) in
+    let s = no-fault (ltb room (2 ^ m)) 17 [] (omega arith) (r .1) in
     let w = or-false (ltb m 1) (ltb greatestWidth m) (p .0) in
     record {
       least = ltb-false m 1 (w .0);
@@ -106,9 +107,9 @@ reason-accepted m input room e =
       room-enough = ltb-false room (2 ^ m) (s .0);
     }
 
-pub accepted-answer : (m : ℕ) (input output : List ℕ) → Accepted m input (length output)
+pub passes-answer : (m : ℕ) (input output : List ℕ) → Passes m input (length output)
     → (transformReason m input (length output) ≡ 0) × (transformAfter m input output ≡ transformed m input ++ drop (2 ^ m) output)
-accepted-answer m input output a =
+passes-answer m input output a =
     let s = sumAt-all in
     let w = done m input output (a .least) (a .most) (2 ^ m) refl (a .size) true (sym (a .below)) refl (a .room-enough) (transformed m input ++ drop (2 ^ m) output)
     (ap (λ (x : List ℕ). x ++ drop (2 ^ m) output) s) in
@@ -138,12 +139,12 @@ pub transform-back : (m : ℕ) (input output back : List ℕ) → transformReaso
     → (transformReason m (take (2 ^ m) (transformAfter m input output)) (length back) ≡ 0)
     × (transformAfter m (take (2 ^ m) (transformAfter m input output)) back ≡ input ++ drop (2 ^ m) back)
 transform-back m input output back e room =
-    let a = reason-accepted m input (length output) e in
+    let a = reason-passes m input (length output) e in
     let c = transformed m input in
     let size : length c ≡ 2 ^ m = tabulate-length (2 ^ m) (subsetSum m (λ v. getD input v 0)) in
     let q : take (2 ^ m) (transformAfter m input output) ≡ c =
-    ap (take (2 ^ m)) (accepted-answer m input output a .1) ∙ take-at c (drop (2 ^ m) output) (2 ^ m) size in
-    let w = accepted-answer m c back
+    ap (take (2 ^ m)) (passes-answer m input output a .1) ∙ take-at c (drop (2 ^ m) output) (2 ^ m) size in
+    let w = passes-answer m c back
     (record { least = a .least; most = a .most; size = size; below = transformed-below m input (a .size) (a .below); room-enough = room }) in
     rw q (w .0, w .1 ∙ ap (λ (x : List ℕ). x ++ drop (2 ^ m) back) (transformed-back m input (a .size)))
 

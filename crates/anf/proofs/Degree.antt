@@ -16,14 +16,15 @@ use lib.Count.{ones, ones-cat, ones-le}
 use lib.Bits.{bitAnd, bitXor, xor-zero-r, xor-lt, and-zero-r}
 use lib.ListN.{length, set, getD}
 use borrow.Author.Tests.{ne-eqb, eqb-false}
-use Rattle.anf.specs.Tests.{pick}
-use Rattle.anf.specs.Sums.{xorBelow}
-use Rattle.anf.specs.Points.{Points, Ignores}
+use Rattle.finite.specs.Tests.{pick}
+use Rattle.finite.specs.Sums.{xorBelow}
+use Rattle.finite.proofs.Testing.{below}
+use Rattle.finite.proofs.Xor.{and-xor}
+use Rattle.finite.proofs.Sums.{xorBelow-first}
+use Rattle.finite.proofs.Subsets.{and-top-low, xor-top-low, Top, low, top, top-cases}
+use Rattle.finite.proofs.Elements.{ones-top}
+use Rattle.anf.specs.Points.{Points, IgnoresPoint}
 use Rattle.anf.specs.NormalForm.{subsetSum, largest, degree}
-use Rattle.anf.proofs.Testing.{below}
-use Rattle.anf.proofs.Xor.{and-xor}
-use Rattle.anf.proofs.Sums.{xorBelow-first}
-use Rattle.anf.proofs.Subsets.{and-top-low, xor-top-low, Top, low, top, top-cases}
 use Rattle.anf.proofs.Transform.{subsetSum-ext, subsetSum-xor, subsetSum-none, subsetSum-const, subsetSum-empty, subsetSum-union}
 
 -- ---- sums over tuples of points, one a part of each block
@@ -135,10 +136,6 @@ apart-top : (n : ℕ) (bs : List ℕ) → Blocks (2 ^ n) bs → Apart (2 ^ n) bs
 apart-top n [] h = tt
 apart-top n (b ∷ bs) h = (ap (λ (x : ℕ). bitAnd x b) (sym (add-zero (2 ^ n))) ∙ and-top-low n 0 b (pow-pos n) (h .1), apart-top n bs (h .3))
 
-ones-top : (n i : ℕ) → i < 2 ^ n → ones (2 ^ n + i) ≡ suc (ones i)
-unfolding ones
-ones-top n i h = let e : 2 ^ n + i ≡ 1 * 2 ^ n + i = omega arith in ap ones e ∙ ones-cat n 1 i h ∙ omega arith
-
 -- s + 1 blocks
 abbrev pub Parted : ℕ → ℕ → ℕ → Type 0
 Parted n s u = (bs : List ℕ) × (length bs ≡ suc s) × Blocks (2 ^ n) bs × (xorAll bs ≡ u)
@@ -175,7 +172,7 @@ unfolding xorAll xorBelow
 xorAll-below [] = refl
 xorAll-below (x ∷ xs) = ap (bitXor x) (xorAll-below xs) ∙ sym (xorBelow-first (length xs) (λ j. getD (x ∷ xs) j 0))
 
-module _ (n s : ℕ) (f : ℕ → ℕ) (F : ℕ → List ℕ → ℕ) (some : 1 ≤ s) (ignores : (j : ℕ) → j < s → Ignores n s j (F j))
+module _ (n s : ℕ) (f : ℕ → ℕ) (F : ℕ → List ℕ → ℕ) (some : 1 ≤ s) (ignores : (j : ℕ) → j < s → IgnoresPoint n s j (F j))
     (sums : (xs : List ℕ) → Points n s xs → xorBelow s (λ j. F j xs) ≡ f (xorBelow s (λ j. getD xs j 0))) where
   -- no coefficient at a set of s or more variables
   pub shares-bound : (u : ℕ) → u < 2 ^ n → s ≤ ones u → subsetSum n f u ≢ 0 → ⊥
@@ -240,7 +237,7 @@ degree-some n f h =
     go u l d p true e q = absurd (omega arith)
     go u l d p false e q = (u, l, eqb-false (subsetSum n f u) 0 e, q)
 
-module _ (n s : ℕ) (f : ℕ → ℕ) (F : ℕ → List ℕ → ℕ) (some : 1 ≤ s) (ignores : (j : ℕ) → j < s → Ignores n s j (F j))
+module _ (n s : ℕ) (f : ℕ → ℕ) (F : ℕ → List ℕ → ℕ) (some : 1 ≤ s) (ignores : (j : ℕ) → j < s → IgnoresPoint n s j (F j))
     (sums : (xs : List ℕ) → Points n s xs → xorBelow s (λ j. F j xs) ≡ f (xorBelow s (λ j. getD xs j 0))) where
   -- the degree is less than the number of shares
   pub degree-bound : s ≤ degree n f → ⊥

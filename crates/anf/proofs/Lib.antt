@@ -1,9 +1,4 @@
 -- Laws of normal form.
-pub mod Testing
-pub mod Counting
-pub mod Xor
-pub mod Sums
-pub mod Subsets
 pub mod Transform
 pub mod Terms
 pub mod Passing

@@ -4,19 +4,20 @@ use mathlib.Core.Path.{_≡_, refl, sym, ap, ap₂, _∙_}
 use mathlib.Core.Logic.{⊎-elim}
 use mathlib.Core.Bool.{Bool, true, false}
 use mathlib.Core.List.{List, [], _∷_, _++_, List·Memᴰ, List·Memᴰ·head, List·Memᴰ·tail, List·Memᴰ·not-nil, List·Memᴰ·cases-cons, List·Memᴰ·append-cases, List·Memᴰ·eq-of-singleton, Memᴰ·append-left, Memᴰ·append-right}
-use Prim.Native.Nat.{ℕ, zero, suc, _+_, _/_, _%_, _^_, _≤_, _<_}
+use Prim.Native.Nat.{ℕ, zero, suc, _/_, _%_, _^_, _≤_, _<_, _+_}
 use native.Mathlib.Nat.{not-suc-le-zero, add-comm}
 use native.Mathlib.Omega.{arith}
 use lib.Dec.{eqb}
 use lib.Bits.{bitXor, xor-zero-r}
 use lib.ListN.{length, length-append}
-use Rattle.anf.specs.Tests.{pick, bit, count, total}
-use Rattle.anf.specs.Sums.{xorBelow}
-use Rattle.anf.specs.NormalForm.{subset, subsetSum}
+use Rattle.finite.specs.Tests.{pick, bit, count, total}
+use Rattle.finite.specs.Sums.{xorBelow}
+use Rattle.finite.specs.Sets.{subset}
+use Rattle.finite.proofs.Testing.{below}
+use Rattle.finite.proofs.Xor.{bit-cases}
+use Rattle.finite.proofs.Sums.{xorBelow-ext}
+use Rattle.anf.specs.NormalForm.{subsetSum}
 use Rattle.anf.specs.Terms.{valueAt, TermList, passing}
-use Rattle.anf.proofs.Testing.{below}
-use Rattle.anf.proofs.Xor.{bit-cases}
-use Rattle.anf.proofs.Sums.{xorBelow-ext}
 use Rattle.anf.proofs.Transform.{subsetSum-twice, subsetSum-bit}
 use Rattle.anf.proofs.Terms.{Rising, rising-terms, valueAt-append, unique-terms}
 

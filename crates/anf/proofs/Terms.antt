@@ -13,13 +13,13 @@ use lib.Dec.{eqb}
 use lib.ListN.{length, getD}
 use lib.Bits.{bitAnd, bitXor, xor-zero-r, xor-lt, and-comm, and-self, xor-comm, xor-add-and}
 use borrow.Author.Tests.{eqb-true, eqb-false, eq-eqb, ne-eqb, ltb-true, lt-ltb}
-use Rattle.anf.specs.Tests.{pick}
-use Rattle.anf.specs.NormalForm.{subset}
+use Rattle.finite.specs.Tests.{pick}
+use Rattle.finite.specs.Sets.{subset}
+use Rattle.finite.proofs.Testing.{or-left, or-right}
+use Rattle.finite.proofs.Xor.{xor-assoc, xor-left-comm, xor-left-cancel, xor-ring, and-assoc, and-xor, xor-and}
+use Rattle.finite.proofs.Sums.{pick-lt}
+use Rattle.finite.proofs.Subsets.{subset-self, subset-gt, subset-iff}
 use Rattle.anf.specs.Terms.{valueAt, before, TermList, names, clear, Depends}
-use Rattle.anf.proofs.Testing.{or-left, or-right}
-use Rattle.anf.proofs.Xor.{xor-assoc, xor-left-comm, xor-left-cancel, xor-ring, and-assoc, and-xor, xor-and}
-use Rattle.anf.proofs.Sums.{pick-lt}
-use Rattle.anf.proofs.Subsets.{subset-self, subset-gt, subset-iff}
 
 -- strictly rising, from lo on and below hi
 abbrev pub Rising : ℕ → ℕ → List ℕ → Type 0

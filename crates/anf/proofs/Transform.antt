@@ -6,12 +6,13 @@ use native.Mathlib.Omega.{arith}
 use lib.Arith.{lt-one}
 use lib.Pow.{pow-pos}
 use lib.Bits.{bitAnd, bitXor, xor-zero-r, xor-self, xor-lt}
-use Rattle.anf.specs.Tests.{pick}
-use Rattle.anf.specs.Sums.{xorBelow}
-use Rattle.anf.specs.NormalForm.{subset, subsetSum}
-use Rattle.anf.proofs.Xor.{xor-cancel}
-use Rattle.anf.proofs.Sums.{xorBelow-ext, xorBelow-xor, xorBelow-none, xorBelow-double, xorBelow-lt, xorBelow-and, xorBelow-bit, pick-xor, pick-zero, pick-and, pick-bit, pick-lt}
-use Rattle.anf.proofs.Subsets.{subset-self, subset-top-top, subset-low-top, subset-top-low, Top, low, top, top-cases, and-top-top, and-top-low, and-low-top, xor-top-low, xor-low-top}
+use Rattle.finite.specs.Tests.{pick}
+use Rattle.finite.specs.Sums.{xorBelow}
+use Rattle.finite.specs.Sets.{subset}
+use Rattle.finite.proofs.Xor.{xor-cancel}
+use Rattle.finite.proofs.Sums.{xorBelow-ext, xorBelow-xor, xorBelow-none, xorBelow-double, xorBelow-lt, xorBelow-and, xorBelow-bit, pick-xor, pick-zero, pick-and, pick-bit, pick-lt}
+use Rattle.finite.proofs.Subsets.{subset-self, subset-top-top, subset-low-top, subset-top-low, Top, low, top, top-cases, and-top-top, and-top-low, and-low-top, xor-top-low, xor-low-top}
+use Rattle.anf.specs.NormalForm.{subsetSum}
 
 pub subsetSum-ext : (n u : ℕ) (f g : ℕ → ℕ) → ((v : ℕ) → v < 2 ^ n → f v ≡ g v) → subsetSum n f u ≡ subsetSum n g u
 unfolding subsetSum

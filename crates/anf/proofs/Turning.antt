@@ -3,33 +3,28 @@
 use mathlib.Core.Path.{_≡_, refl, sym, ap₂, _∙_}
 use mathlib.Core.Bool.{Bool, true, false}
 use mathlib.Core.List.{List, _++_}
-use Prim.Native.Nat.{ℕ, _+_, _*_, _%_, _^_, _≤_, _<_, max}
-use native.Mathlib.Nat.{one-mul}
+use Prim.Native.Nat.{ℕ, _+_, _^_, _≤_, _<_, max}
 use native.Mathlib.Omega.{arith}
 use lib.Bits.{bitAnd, bitXor}
 use lib.Count.{ones, ones-le}
-use lib.Dec.{eqb, ltb, lit<}
-use lib.Pow.{shl-exact}
+use lib.Dec.{eqb, ltb}
 use lib.ListN.{length, getD, set, drop, length-set}
 use borrow.Author.Tests.{lt-ltb, le-ltb, eq-eqb, ne-eqb}
 use borrow.Rule.Slice.Know.{Fit}
 use borrow.Table.Referent.{fInt}
 use mir.Syntax.{w8, w64}
 use mir.Val.{Fits}
-use Rattle.anf.specs.Tests.{pick, all, any, tabulate}
-use Rattle.anf.specs.Sums.{xorBelow}
-use Rattle.anf.specs.NormalForm.{subset, largest}
-use Rattle.anf.specs.Tables.{entriesBelow, standsBelow, repeats, wordsDegree}
-use Rattle.anf.specs.Transform.{sumAt}
-use Rattle.anf.proofs.Testing.{pick-true, pick-false, all-more, all-fails, any-at, any-none-more, tabulate-more}
-use Rattle.anf.proofs.Sums.{xorBelow-step}
-use Rattle.anf.proofs.Subsets.{eq-subset, ne-subset}
+use Rattle.finite.specs.Tests.{pick, all, any, tabulate}
+use Rattle.finite.specs.Sums.{xorBelow}
+use Rattle.finite.specs.Sets.{subset}
+use Rattle.finite.specs.Maps.{metBefore, repeats}
+use Rattle.finite.proofs.Testing.{pick-true, pick-false, all-more, all-fails, any-at, any-none-more, tabulate-more}
+use Rattle.finite.proofs.Sums.{xorBelow-step}
+use Rattle.finite.proofs.Subsets.{eq-subset, ne-subset}
+use Rattle.anf.specs.NormalForm.{largest}
+use Rattle.anf.specs.Tables.{entriesBelow, entry}
+use Rattle.anf.specs.inside.Words.{wordsDegree, sumAt}
 use Rattle.anf.proofs.Degree.{largest-more}
-
--- ---- `points`: the shift loses no bit
-
-pub shifted : (m : ℕ) → m < 64 → 1 * 2 ^ m % 2 ^ 64 ≡ 2 ^ m
-shifted m h = shl-exact 1 m 64 (lit< tt) (omega arith) ∙ one-mul _
 
 -- ---- `entries_below`: the entries passed are below the bound
 
@@ -55,7 +50,7 @@ module _ (t : List ℕ) (bound : ℕ) where
   unfolding entriesBelow
   below-end i p a b = let e : i ≡ length t = omega arith in sym (rw e at (p .so))
 
--- ---- `stands_below`: no entry passed is the one at i
+-- ---- `met_before`: no entry passed is the one at i
 
 pub record PassedOther (t : List ℕ) (i y : ℕ) : Type 0 where
   pub so : any y (λ k. eqb (getD t k 0) (getD t i 0)) ≡ false
@@ -65,38 +60,38 @@ module _ (t : List ℕ) (i : ℕ) where
   unfolding any
   other-start = record { so = refl }
 
-  pub other-fails : (y : ℕ) → y < i → getD t y 0 ≡ getD t i 0 → true ≡ standsBelow t i
-  unfolding standsBelow
+  pub other-fails : (y : ℕ) → y < i → getD t y 0 ≡ getD t i 0 → true ≡ metBefore (entry t) i
+  unfolding metBefore
   other-fails y h e = sym (any-at i _ y h (eq-eqb _ _ e))
 
   pub other-more : (y : ℕ) → PassedOther t i y → (getD t y 0 ≡ getD t i 0 → ⊥) → PassedOther t i (y + 1)
   other-more y p n = record { so = any-none-more y _ (p .so) (ne-eqb _ _ n) }
 
-  pub other-end : (y : ℕ) → PassedOther t i y → y ≤ i → i ≤ y → false ≡ standsBelow t i
-  unfolding standsBelow
+  pub other-end : (y : ℕ) → PassedOther t i y → y ≤ i → i ≤ y → false ≡ metBefore (entry t) i
+  unfolding metBefore
   other-end y p a b = let e : y ≡ i = omega arith in sym (rw e at (p .so))
 
 -- ---- `repeats`: none of the entries passed stands at a lower index too; r is whether the next does
 
 pub record PassedOnce (t : List ℕ) (i : ℕ) : Type 0 where
-  pub so : any i (λ x. any x (λ y. eqb (getD t y 0) (getD t x 0))) ≡ false
+  pub so : any i (metBefore (entry t)) ≡ false
 
 module _ (t : List ℕ) where
   pub once-start : PassedOnce t 0
   unfolding any
   once-start = record { so = refl }
 
-  pub once-end : (i : ℕ) → PassedOnce t i → i ≤ length t → length t ≤ i → false ≡ repeats (length t) t
+  pub once-end : (i : ℕ) → PassedOnce t i → i ≤ length t → length t ≤ i → false ≡ repeats (length t) (entry t)
   unfolding repeats
   once-end i p a b = let e : i ≡ length t = omega arith in sym (rw e at (p .so))
 
-  module _ (i : ℕ) (r : Bool) (e : r ≡ standsBelow t i) where
-    pub once-fails : r ≡ true → i < length t → true ≡ repeats (length t) t
-    unfolding repeats standsBelow
+  module _ (i : ℕ) (r : Bool) (e : r ≡ metBefore (entry t) i) where
+    pub once-fails : r ≡ true → i < length t → true ≡ repeats (length t) (entry t)
+    unfolding repeats metBefore
     once-fails q h = sym (any-at (length t) _ i h (sym e ∙ q))
 
     pub once-more : r ≡ false → PassedOnce t i → PassedOnce t (i + 1)
-    unfolding standsBelow
+    unfolding metBefore
     once-more q p = record { so = any-none-more i _ (p .so) (sym e ∙ q) }
 
 -- ---- `variables`, `words_degree`: d is the degree that the words passed give

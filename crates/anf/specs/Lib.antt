@@ -1,9 +1,8 @@
 -- Normal form.
-pub mod Tests
-pub mod Sums
 pub mod NormalForm
 pub mod Terms
 pub mod Tables
+pub mod Points
 pub mod Transform
 pub mod Bench
-pub mod Points
+pub mod inside

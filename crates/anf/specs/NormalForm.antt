@@ -1,15 +1,10 @@
 -- Normal form: the sum over subsets, and the degree. A set of variables is a number, variable b is its bit b.
 use Prim.Native.Nat.{ℕ, zero, suc, _^_, max}
-use mathlib.Core.Bool.{Bool}
 use lib.Dec.{eqb}
-use lib.Bits.{bitAnd}
 use lib.Count.{ones}
-use Rattle.anf.specs.Tests.{pick}
-use Rattle.anf.specs.Sums.{xorBelow}
-
--- the set v is a subset of the set u
-unfoldable pub subset : ℕ → ℕ → Bool
-subset v u = eqb (bitAnd v u) v
+use Rattle.finite.specs.Tests.{pick}
+use Rattle.finite.specs.Sums.{xorBelow}
+use Rattle.finite.specs.Sets.{subset}
 
 -- The sum of the entries of f at all subsets of u, for n variables. Of a table this is the coefficient word at u,
 -- and of the coefficient words it is the entry at u. Entry bits are treated side by side.

@@ -10,5 +10,5 @@ pub record Points (n s : ℕ) (xs : List ℕ) : Type 0 where
   pub below : (j : ℕ) → j < s → getD xs j 0 < 2 ^ n
 
 -- a function of s points does not depend on point j
-abbrev pub Ignores : ℕ → ℕ → ℕ → (List ℕ → ℕ) → Type 0
-Ignores n s j F = (xs : List ℕ) → Points n s xs → (v : ℕ) → v < 2 ^ n → F (set xs j v) ≡ F xs
+abbrev pub IgnoresPoint : ℕ → ℕ → ℕ → (List ℕ → ℕ) → Type 0
+IgnoresPoint n s j F = (xs : List ℕ) → Points n s xs → (v : ℕ) → v < 2 ^ n → F (set xs j v) ≡ F xs

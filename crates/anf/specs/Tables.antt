@@ -1,25 +1,20 @@
--- Tables as lists of entries.
-use Prim.Native.Nat.{ℕ}
+-- Tables as lists of entries (the paper's "What the library covers").
+use Prim.Native.Nat.{ℕ, _^_}
 use mathlib.Core.Bool.{Bool}
 use mathlib.Core.List.{List}
-use lib.Dec.{eqb, ltb}
-use lib.Count.{ones}
+use lib.Dec.{ltb}
 use lib.ListN.{length, getD}
-use Rattle.anf.specs.Tests.{pick, all, any}
-use Rattle.anf.specs.NormalForm.{largest}
+use Rattle.finite.specs.Tests.{all}
+use Rattle.finite.specs.Maps.{Injective}
+
+-- the entry of a table at x
+abbrev pub entry : List ℕ → ℕ → ℕ
+entry t x = getD t x 0
 
 -- every entry is below the bound
 unfoldable pub entriesBelow : List ℕ → ℕ → Bool
-entriesBelow t bound = all (length t) (λ x. ltb (getD t x 0) bound)
+entriesBelow t bound = all (length t) (λ x. ltb (entry t x) bound)
 
--- the entry at i stands at an index below i too
-unfoldable pub standsBelow : List ℕ → ℕ → Bool
-standsBelow t i = any i (λ y. eqb (getD t y 0) (getD t i 0))
-
--- some two of the first n entries are equal
-unfoldable pub repeats : ℕ → List ℕ → Bool
-repeats n t = any n (λ x. any x (λ y. eqb (getD t y 0) (getD t x 0)))
-
--- the degree that coefficient words give: the largest number of variables of a set whose word is not zero
-unfoldable pub wordsDegree : List ℕ → ℕ
-wordsDegree words = largest (length words) (λ u. pick (eqb (getD words u 0) 0) 0 (ones u))
+-- a table of 2^m entries repeats none
+abbrev pub Permutation : ℕ → List ℕ → Type 0
+Permutation m t = Injective (2 ^ m) (entry t)

@@ -7,8 +7,8 @@ use mathlib.Core.List.{List, [], _∷_, _++_}
 use lib.Dec.{eqb, ltb}
 use lib.Bits.{bitAnd, bitXor}
 use lib.ListN.{length, getD}
-use Rattle.anf.specs.Tests.{pick}
-use Rattle.anf.specs.NormalForm.{subset}
+use Rattle.finite.specs.Tests.{pick}
+use Rattle.finite.specs.Sets.{subset}
 
 -- the value of a list at the point x: the sum of its terms there
 unfoldable pub valueAt : List ℕ → ℕ → ℕ

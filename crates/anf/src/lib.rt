@@ -5,21 +5,15 @@ ghost use Prim.Native.Nat.{_^_, _<_, _≤_, max};
 ghost use lib.Dec.{eqb};
 ghost use lib.Count.{ones};
 ghost use lib.ListN.{length, drop};
-ghost use Rattle.anf.specs.Tests.{pick, tabulate};
-ghost use Rattle.anf.specs.NormalForm.{subset};
-ghost use Rattle.anf.specs.Tables.{entriesBelow, standsBelow, repeats, wordsDegree};
-ghost use Rattle.anf.specs.Transform.{sumAt, transformReason, transformAfter};
+ghost use Rattle.finite.specs.Tests.{pick, tabulate};
+ghost use Rattle.finite.specs.Sets.{subset};
+ghost use Rattle.finite.specs.Maps.{metBefore, repeats};
+ghost use Rattle.anf.specs.Tables.{entriesBelow, entry};
+ghost use Rattle.anf.specs.inside.Words.{wordsDegree, sumAt};
+ghost use Rattle.anf.specs.Transform.{transformReason, transformAfter};
 
 // The greatest width of a table.
 pub const GREATEST_WIDTH: usize = 6;
-
-// The number of points of m variables.
-pub fn points(m: usize) -> usize
-    requires { ⌜ m < 64 ⌝ }
-    ensures { λ r. ⌜ r ≡ 2 ^ m ⌝ }
-{
-    1 << m
-}
 
 // Whether every entry is below the bound.
 pub fn entries_below(table: &[u8], bound: usize) -> bool
@@ -37,11 +31,11 @@ pub fn entries_below(table: &[u8], bound: usize) -> bool
 
 // Whether some two entries are equal.
 pub fn repeats(table: &[u8]) -> bool
-    ensures { λ r. ⌜ r ≡ repeats (length (now (table .entry))) (now (table .entry)) ⌝ }
+    ensures { λ r. ⌜ r ≡ repeats (length (now (table .entry))) (entry (now (table .entry))) ⌝ }
 {
     let mut i: usize = 0;
     while i < table.len() {
-        if stands_below(table, i) {
+        if met_before(table, i) {
             return true;
         }
         i += 1;
@@ -50,9 +44,9 @@ pub fn repeats(table: &[u8]) -> bool
 }
 
 // Whether the entry at i stands at an index below i too.
-fn stands_below(table: &[u8], i: usize) -> bool
+fn met_before(table: &[u8], i: usize) -> bool
     requires { ⌜ i < length (now table) ⌝ }
-    ensures { λ r. ⌜ r ≡ standsBelow (now (table .entry)) i ⌝ }
+    ensures { λ r. ⌜ r ≡ metBefore (entry (now (table .entry))) i ⌝ }
 {
     let entry = table[i];
     let mut y: usize = 0;
@@ -143,7 +137,7 @@ fn convert(m: usize, input: &[u8], output: &mut [u8]) -> usize
     if GREATEST_WIDTH < m {
         return 4;
     }
-    let n = points(m);
+    let n = finite::power(m);
     if input.len() != n {
         return 3;
     }

@@ -15,8 +15,9 @@ use borrow.Author.Tests.{not-true, not-false}
 use borrow.Rule.Slice.Know.{Fit}
 use borrow.Table.Referent.{fInt}
 use mir.Syntax.{w8}
-use Rattle.anf.specs.Tests.{all}
-use Rattle.anf.proofs.Testing.{all-more, all-fails}
+use Rattle.finite.specs.Tests.{all}
+use Rattle.finite.specs.Maps.{repeats}
+use Rattle.finite.proofs.Testing.{all-more, all-fails}
 use Rattle.design.specs.Limits.{greatestWidth, greatestShares, greatestShareBits}
 use Rattle.design.specs.Design.{stageOf}
 use Rattle.design.specs.Reading.{meaning, numberOf}
@@ -29,7 +30,7 @@ use Rattle.design.proofs.StageLists.{Stand, stand}
 use Rattle.threshold.specs.Sharing.{sum, variables}
 use Rattle.threshold.specs.Stages.{output, correct}
 use Rattle.checker.specs.Parts.{Standing, agreeing}
-use Rattle.checker.specs.Marks.{Clear, repeatsBy, zeroed, sharingsOf, marksOf}
+use Rattle.checker.specs.Marks.{Clear, zeroed, sharingsOf, marksOf}
 use Rattle.checker.proofs.Marking.{eights, clear-none}
 use Rattle.checker.proofs.Repeating.{table-size}
 
@@ -137,6 +138,6 @@ module _ (f : List ℕ) (l : Layout) (t : ℕ) (h : t < l .head .k) (d : Describ
     unfolding agreeing correct
     stage-agrees b p r q = q ∙ ap₂ (λ (u : List (List ℕ)) (v : List ℕ). agreeing (l .head .m) (l .head .s) u v (2 ^ (l .head .m * l .head .s))) (stands .all) p
 
-    pub stage-meets : (r : Bool) → r ≡ repeatsBy (sharingsOf l) (output (listsOf f (l .starts) first (l .head .m * l .head .s)))
-        → r ≡ repeatsBy (sharingsOf l) (output (stageOf (meaning f) t .lists))
-    stage-meets r q = q ∙ ap (λ (u : List (List ℕ)). repeatsBy (sharingsOf l) (output u)) (stands .all)
+    pub stage-meets : (r : Bool) → r ≡ repeats (sharingsOf l) (output (listsOf f (l .starts) first (l .head .m * l .head .s)))
+        → r ≡ repeats (sharingsOf l) (output (stageOf (meaning f) t .lists))
+    stage-meets r q = q ∙ ap (λ (u : List (List ℕ)). repeats (sharingsOf l) (output u)) (stands .all)

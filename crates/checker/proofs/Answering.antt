@@ -7,8 +7,9 @@ use mathlib.Core.Bool.{Bool, true, false, not}
 use Prim.Native.Nat.{ℕ, _+_, _*_, _^_, _<_, _≤_}
 use native.Mathlib.Omega.{arith}
 use borrow.Author.Tests.{not-true, not-false}
-use Rattle.anf.specs.Tests.{pick, first}
-use Rattle.anf.proofs.Testing.{pick-true, pick-false}
+use Rattle.finite.specs.Tests.{pick, first}
+use Rattle.finite.specs.Maps.{repeats}
+use Rattle.finite.proofs.Testing.{pick-true, pick-false, first-some, first-past}
 use Rattle.design.specs.Design.{Stage, stageOf}
 use Rattle.design.specs.Reading.{meaning}
 use Rattle.design.specs.Layout.{Describes}
@@ -17,10 +18,10 @@ use Rattle.design.proofs.Answered.{described}
 use Rattle.threshold.specs.Stages.{output, correct, readsOwn, uniform}
 use Rattle.threshold.proofs.Stages.{Permutes}
 use Rattle.checker.specs.Verdict.{answer, firstRepeating, judgeStages}
-use Rattle.checker.specs.Marks.{repeatsBy, sharingsOf}
+use Rattle.checker.specs.Marks.{sharingsOf}
 use Rattle.checker.specs.declared.Verdict.{Verdict}
 use Rattle.checker.proofs.Steps.{readsOwnAt, stageAnswer, stagesFrom, stages-next, stages-end, stages-all, stage-wrong, stage-reads, stage-judged, stage-fault, stage-fine}
-use Rattle.checker.proofs.Repeating.{first-some, first-past, none-repeats, none-permutes}
+use Rattle.checker.proofs.Repeating.{none-repeats, none-permutes}
 use Rattle.checker.proofs.Uniform.{uniform-marks}
 
 -- stage t of the design that a file means
@@ -55,7 +56,7 @@ module _ (f : List ℕ) (l : Layout) (d : Describes f l) (t : ℕ) (h : t < l .h
           is ∙ ap (λ (x : ℕ). answer 13 (t + 1) (x + 1)) lowest
           ∙ sym (stage-reads (meaning f) t (answer 0 0 0) right (first-some (meaning f .s) (readsOwnAt (meaning f) t) (let a = described d .s in let b = lowest in omega arith)))
 
-      module _ (k : l .head .s ≤ j) (tables : l .head .k ≤ firstRepeating (meaning f)) (u : Bool) (x : u ≡ repeatsBy (sharingsOf l) (output (stageIn f t .lists))) where
+      module _ (k : l .head .s ≤ j) (tables : l .head .k ≤ firstRepeating (meaning f)) (u : Bool) (x : u ≡ repeats (sharingsOf l) (output (stageIn f t .lists))) where
         permutes : Permutes (meaning f .m) (stageIn f t .table)
         permutes = record {
           into = described d .formed .stage t inside .table .below;
@@ -65,7 +66,7 @@ module _ (f : List ℕ) (l : Layout) (d : Describes f l) (t : ℕ) (h : t < l .h
         marks : uniform (meaning f .m) (meaning f .s) (stageIn f t) ≡ not u
         marks =
             uniform-marks (meaning f .m) (meaning f .s) (stageIn f t) (described d .formed .stage t inside .count) permutes right
-            ∙ ap not (sym (x ∙ ap₂ (λ (m s : ℕ). repeatsBy (2 ^ (m * s)) (output (stageIn f t .lists))) (described d .m) (described d .s)))
+            ∙ ap not (sym (x ∙ ap₂ (λ (m s : ℕ). repeats (2 ^ (m * s)) (output (stageIn f t .lists))) (described d .m) (described d .s)))
 
         past-reads : stageAnswer (meaning f) t (answer 0 0 0) ≡ pick (uniform (meaning f .m) (meaning f .s) (stageIn f t)) (answer 0 0 0) (answer 14 (t + 1) 0)
         past-reads = stage-judged (meaning f) t (answer 0 0 0) right (first-past (meaning f .s) (readsOwnAt (meaning f) t) (let a = described d .s in let b = lowest in omega arith))

@@ -3,7 +3,7 @@
 -- Assumes nothing.
 use mathlib.Core.Path.{_≡_, sym, ap, _∙_}
 use mathlib.Core.List.{List}
-use Prim.Native.Nat.{ℕ, _-_, _^_, _<_, _≤_}
+use Prim.Native.Nat.{ℕ, _^_, _<_, _≤_}
 use native.Mathlib.Omega.{arith}
 use lib.ListN.{length}
 use Rattle.design.specs.Limits.{greatestShares}
@@ -13,8 +13,8 @@ use Rattle.design.proofs.Theorems.{read-formed}
 use Rattle.threshold.specs.Sharing.{sum}
 use Rattle.threshold.specs.Stages.{component}
 use Rattle.threshold.specs.Chain.{handed, chained}
-use Rattle.threshold.proofs.Meetings.{AllSound, met-once, outcome, test-independent, value-independent}
 use Rattle.threshold.specs.Running.{packed}
+use Rattle.threshold.proofs.Meetings.{AllSound, met-once, outcome, test-independent, value-independent}
 use Rattle.threshold.proofs.Running.{running-success, unpacked-sum, packed-sum, packed-lt, share-fits}
 use Rattle.checker.specs.Verdict.{verdict}
 use Rattle.checker.specs.Accepted.{Accepted}

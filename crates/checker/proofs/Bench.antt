@@ -1,11 +1,11 @@
 -- Every bench row of the verdict and of running, by computing.
 use mathlib.Core.Path.{_≡_, refl}
 use mathlib.Core.List.{map}
-use Rattle.anf.specs.Tests.{any, first, total}
-use Rattle.anf.specs.Sums.{xorBelow}
-use Rattle.anf.specs.NormalForm.{subset}
+use Rattle.finite.specs.Tests.{any, first, total}
+use Rattle.finite.specs.Sums.{xorBelow}
+use Rattle.finite.specs.Sets.{subset}
+use Rattle.finite.specs.Maps.{repeats, metBefore}
 use Rattle.anf.specs.Terms.{valueAt}
-use Rattle.anf.specs.Tables.{repeats}
 use Rattle.design.specs.Encode.{join, aRecord, stageBytes, encode}
 use Rattle.design.specs.Bytes.{termBytes}
 use Rattle.design.proofs.Bench.{computing}
@@ -17,5 +17,5 @@ use Rattle.checker.specs.Verdict.{chainIsBox, firstRepeating, stageVerdi
 use Rattle.checker.specs.Bench.{rows, runs}
 
 pub bench : (map (λ r. verdict (r .file) (r .workspace)) rows ≡ map (λ r. r .answer) rows) × (map (λ r. running (r .file) (r .shares)) runs ≡ map (λ r. r .answer) runs)
-unfolding computing any first total xorBelow subset valueAt repeats join aRecord stageBytes encode termBytes share sum setting putShare output correct readsOwn sharingsTo uniform chained handed packed unpacked shareFits sharesFit runningOn running chainIsBox firstRepeating stageVerdict judgeStages judged judgedReading verdict
+unfolding computing any first total xorBelow subset valueAt repeats metBefore join aRecord stageBytes encode termBytes share sum setting putShare output correct readsOwn sharingsTo uniform chained handed packed unpacked shareFits sharesFit runningOn running chainIsBox firstRepeating stageVerdict judgeStages judged judgedReading verdict
 bench = (refl, refl)

@@ -12,10 +12,10 @@ use lib.Pow.{pow-mono}
 use lib.Dec.{eqb}
 use mathlib.Core.Bool.{true, false}
 use borrow.Author.Tests.{eq-eqb, ne-eqb}
-use Rattle.anf.specs.Tests.{all}
-use Rattle.anf.proofs.Testing.{all-more, all-fails}
-use borrow.Author.Count.{below-more}
-use Rattle.design.specs.Design.{Stage, entry, noStage, stageOf}
+use Rattle.finite.specs.Tests.{all}
+use Rattle.finite.proofs.Testing.{all-more, all-fails}
+use Rattle.anf.specs.Tables.{entry}
+use Rattle.design.specs.Design.{Stage, noStage, stageOf}
 use Rattle.design.specs.Reading.{meaning}
 use Rattle.design.specs.Layout.{Describes}
 use Rattle.design.specs.declared.Layout.{Layout}
@@ -24,6 +24,7 @@ use Rattle.threshold.specs.Chain.{chained}
 use Rattle.checker.specs.Verdict.{chainIsBox}
 use Rattle.checker.specs.Parts.{Composes}
 use Rattle.checker.proofs.Repeating.{table-size}
+use borrow.Author.Count.{below-more}
 
 -- ---- 64 bytes that are filled from their start: those before place x hold what g says
 

@@ -9,8 +9,9 @@ use native.Mathlib.Omega.{arith}
 use lib.ListN.{length}
 use lib.Dec.{ltb}
 use borrow.Author.Tests.{lt-ltb, le-ltb, not-true, not-false}
-use Rattle.anf.specs.Tables.{repeats}
-use Rattle.anf.proofs.Testing.{pick-true, pick-false, or-left, or-right, or-none}
+use Rattle.finite.specs.Maps.{repeats}
+use Rattle.finite.proofs.Testing.{pick-true, pick-false, or-left, or-right, or-none}
+use Rattle.anf.specs.Tables.{entry}
 use Rattle.design.specs.Reading.{meaning}
 use Rattle.design.specs.Layout.{Describes, Answers}
 use Rattle.design.specs.declared.Layout.{Layout}
@@ -52,8 +53,8 @@ module _ (f : List ℕ) (l : Layout) (d : Describes f l) where
   marks-for : marksOf l ≡ workspaceFor (meaning f)
   marks-for = ap₂ (λ (m s : ℕ). 2 ^ (m * s) / 8) (described d .m) (described d .s)
 
-  module _ (b : List ℕ) (eb : b ≡ meaning f .box) (r : Bool) (er : r ≡ repeats (length b) b) (ws : List ℕ) where
-    box : repeats (2 ^ meaning f .m) (meaning f .box) ≡ r
+  module _ (b : List ℕ) (eb : b ≡ meaning f .box) (r : Bool) (er : r ≡ repeats (length b) (entry b)) (ws : List ℕ) where
+    box : repeats (2 ^ meaning f .m) (entry (meaning f .box)) ≡ r
     box = sym (er ∙ box-repeats f l d b eb)
 
     pub box-repeated : r ≡ true → (v : Verdict) → v ≡ answer 8 0 0 → v ≡ judged (meaning f) (length ws)
@@ -74,7 +75,7 @@ module _ (f : List ℕ) (l : Layout) (d : Describes f l) where
 
       pub no-room-after : length ws < n → ws ≡ workspaceOf (meaning f) ws
       unfolding workspaceOf
-      no-room-after h = sym (pick-true _ _ _ (or-right (repeats (2 ^ meaning f .m) (meaning f .box)) _ (small h)))
+      no-room-after h = sym (pick-true _ _ _ (or-right (repeats (2 ^ meaning f .m) (entry (meaning f .box))) _ (small h)))
 
       module _ (h : n ≤ length ws) where
         room : ltb (length ws) (workspaceFor (meaning f)) ≡ false

@@ -4,27 +4,29 @@ use mathlib.Core.Path.{_≡_, refl, sym, ap, _∙_, subst}
 use mathlib.Core.Logic.{_↔_}
 use mathlib.Core.List.{List}
 use mathlib.Core.Bool.{Bool, true, false}
-use Prim.Native.Nat.{ℕ, zero, suc, _+_, _-_, _^_, _<_}
+use Prim.Native.Nat.{ℕ, zero, suc, _+_, _^_, _<_}
 use native.Mathlib.Nat.{not-suc-le-zero}
 use native.Mathlib.Omega.{arith}
 use borrow.Author.Count.{below-more}
 use lib.Dec.{ltb}
 use borrow.Author.Tests.{eqb-true, eq-eqb, ltb-true, ltb-false}
-use Rattle.anf.specs.Tests.{pick, any, first}
-use Rattle.anf.specs.Tables.{repeats}
-use Rattle.anf.proofs.Testing.{all-at, all-intro, any-none, first-is, clash}
+use Rattle.finite.specs.Tests.{pick, any, first}
+use Rattle.finite.specs.Maps.{repeats}
+use Rattle.finite.proofs.Testing.{all-at, all-intro, any-none, first-is, clash}
+use Rattle.finite.proofs.Maps.{repeats-clash, repeats→injective}
+use Rattle.anf.specs.Tables.{Permutation, entry}
 use Rattle.design.specs.Design.{Design, WellFormed, stageOf}
 use Rattle.design.specs.Reading.{Reading, refused, means, reading}
+use Rattle.design.proofs.Theorems.{read-formed}
+use Rattle.design.proofs.Reasons.{reason-range}
 use Rattle.threshold.specs.Stages.{correct, uniform}
 use Rattle.threshold.proofs.Tests.{correct↔, ignores↔, uniform↔}
 use Rattle.checker.specs.Verdict.{answer, workspaceFor, chainIsBox, firstRepeating, stageVerdict, judged, judgedReading, verdict}
-use Rattle.checker.specs.Accepted.{Permutation, ChainIsBox, TablePermutes, CorrectAt, IgnoresOwn, NonCompleteAt, UniformAt, Sound, Accepted, Ready, Passed, Explained, refusal, fault-8, fault-9, fault-10, fault-11, fault-12, fault-13, fault-14, accepted}
+use Rattle.checker.specs.Accepted.{ChainIsBox, TablePermutes, CorrectAt, IgnoresOwn, NonCompleteAt, UniformAt, Sound, Accepted, Ready, Passed, Explained, refusal, fault-8, fault-9, fault-10, fault-11, fault-12, fault-13, fault-14, accepted}
 use Rattle.checker.specs.declared.Verdict.{Verdict}
 use Rattle.checker.proofs.Steps.{readsOwnAt, stagesFrom, stages-next, stages-end}
-use Rattle.design.proofs.Theorems.{read-formed}
-use Rattle.design.proofs.Reasons.{reason-range}
 use Rattle.checker.proofs.Repeating.{first-repeats, none-repeats, none-permutes}
-use Rattle.checker.proofs.Permutations.{repeats-permutation, repeats-none, chain-tables}
+use Rattle.checker.proofs.Permutations.{chain-tables}
 
 -- a verdict by a test is explained where both its sides are
 picked : (f : List ℕ) (n : ℕ) (b : Bool) (x y : Verdict) → (b ≡ true → Explained f n x) → (b ≡ false → Explained f n y) → Explained f n (pick b x y)
@@ -73,9 +75,9 @@ module _ (f : List ℕ) (n : ℕ) (d : Design) (wf : WellFormed d) where
   judged-explained : reading f ≡ means d → Explained f n (judged d n)
   unfolding judged
   judged-explained reads =
-      picked f n (repeats (2 ^ d .m) (d .box)) _ _
-      (λ e. fault-8 d reads (repeats-none (d .m) (d .box) e))
-      (λ e. let box = repeats-permutation (d .m) (d .box) e in
+      picked f n (repeats (2 ^ d .m) (entry (d .box))) _ _
+      (λ e. fault-8 d reads (repeats-clash (2 ^ d .m) (entry (d .box)) e))
+      (λ e. let box = repeats→injective (2 ^ d .m) (entry (d .box)) e in
       picked f n (ltb n (workspaceFor d)) _ _
       (λ l. fault-9 d reads box (ltb-true _ _ l))
       (λ l. let ready : Ready f n d = record { reads = reads; box = box; room = ltb-false _ _ l } in
@@ -83,7 +85,7 @@ module _ (f : List ℕ) (n : ℕ) (d : Design) (wf : WellFormed d) where
       (λ c. let chain = chain↔ d .0 c in
       picked f n (ltb (firstRepeating d) (d .k)) _ _
       (λ r. let q = first-repeats d (ltb-true _ _ r) in
-      fault-11 d (firstRepeating d) ready chain (ltb-true _ _ r) (none-permutes d (firstRepeating d) (q .1)) (repeats-none (d .m) _ (q .0)))
+      fault-11 d (firstRepeating d) ready chain (ltb-true _ _ r) (none-permutes d (firstRepeating d) (q .1)) (repeats-clash (2 ^ d .m) _ (q .0)))
       (λ r. stages-explained (d .k) 0 (omega arith)
       (record { ready = ready; chain = chain; tables = none-permutes d (d .k) (none-repeats d (ltb-false _ _ r)); before = λ i k. absurd (not-suc-le-zero k) })))
       (λ c. fault-10 d ready (λ h. clash (chain↔ d .1 h) c))))

@@ -7,9 +7,9 @@ use Prim.Native.Nat.{ℕ, zero, suc, _+_, _*_, _^_, _<_, _≤_}
 use native.Mathlib.Nat.{le-of-suc-le-suc, not-suc-le-zero}
 use native.Mathlib.Omega.{arith}
 use lib.ListN.{length, getD}
-use Rattle.anf.specs.Tests.{any, first}
+use Rattle.finite.specs.Tests.{any, first}
+use Rattle.finite.proofs.Testing.{any-at, or-left, or-right, or-none, any-none, any-none-more, first-found, first-none}
 use Rattle.anf.specs.Terms.{TermList, names}
-use Rattle.anf.proofs.Testing.{any-at, or-left, or-right, or-none, any-none, any-none-more, first-found, first-none}
 use Rattle.design.specs.Limits.{greatestShares}
 use Rattle.design.specs.Bytes.{terms, termBytes}
 use Rattle.design.specs.Design.{stageOf, listOf}

@@ -1,4 +1,4 @@
--- Marks: marking y marks y and nothing else. A run of marks meets one twice exactly when two outputs are equal; and that is what `repeatsBy` says.
+-- Marks: marking y marks y and nothing else. A run of marks meets one twice exactly when two outputs are equal.
 -- Assumes nothing.
 use mathlib.Core.Path.{_≡_, refl, sym, ap, _∙_, subst}
 use mathlib.Core.List.{List, _++_}
@@ -13,15 +13,11 @@ use lib.ListN.{length, getD, set, drop, replicate, length-set, List·getD-append
 use lib.Seq.{getD-set-same, getD-set-other, drop-set-lt, drop-at}
 use lib.Bits.{bitOr, or-shr, or-mod, or-zero-r}
 use lib.Pow.{pow-pos, pow-lt, pow-add, shl-shr, shl-exact}
-use borrow.Author.Tests.{eq-eqb, ne-eqb, eqb-true}
-use Rattle.anf.specs.Tests.{any}
-use Rattle.anf.proofs.Testing.{or-right, any-at, any-some, any-step, not-true-false, clash}
-use Rattle.anf.proofs.Counting.{Injective}
-use Rattle.checker.specs.Marks.{marked, mark, Clear, repeatsBy, zeroed}
-
-or-false-right : (a b : Bool) → b ≡ false → (a || b) ≡ a
-or-false-right true b e = refl
-or-false-right false b e = e
+use borrow.Author.Tests.{eq-eqb, ne-eqb}
+use Rattle.finite.specs.Tests.{any}
+use Rattle.finite.specs.Maps.{repeats, metBefore}
+use Rattle.finite.proofs.Testing.{or-right, any-at, any-step, or-false-right}
+use Rattle.checker.specs.Marks.{marked, mark, Clear, zeroed}
 
 -- ---- bits of a byte
 
@@ -125,11 +121,11 @@ pub record Run (n : ℕ) (g : ℕ → ℕ) (l₀ l : List ℕ) (i : ℕ) : Type 
   pub most : i ≤ n
   pub long : length l ≡ length l₀
   pub rest : drop (n / 8) l ≡ drop (n / 8) l₀
-  pub once : repeatsBy i g ≡ false
+  pub once : repeats i g ≡ false
   pub met : (y : ℕ) → y < n → marked l y ≡ any i (λ j. eqb (g j) y)
 
 pub run-start : (n : ℕ) (g : ℕ → ℕ) (l : List ℕ) → Clear n l → Run n g l l 0
-unfolding repeatsBy any
+unfolding repeats any
 run-start n g l k = record { most = omega arith; long = refl; rest = refl; once = refl; met = k }
 
 -- 2^e is a multiple of 8
@@ -144,7 +140,8 @@ module _ (e : ℕ) (g : ℕ → ℕ) (l₀ l : List ℕ) (i : ℕ) (r : Run (2 ^
     within : y / 8 < 2 ^ e / 8
     within = let w = eights e low in omega arith
 
-    seen : marked l y ≡ any i (λ j. eqb (g j) (g i))
+    seen : marked l y ≡ metBefore g i
+    unfolding metBefore
     seen = r .met y below ∙ ap (λ (z : ℕ). any i (λ j. eqb (g j) z)) here
 
     -- the mark is inside the workspace
@@ -152,15 +149,15 @@ module _ (e : ℕ) (g : ℕ → ℕ) (l₀ l : List ℕ) (i : ℕ) (r : Run (2 ^
     run-inside = let w = within in let h = r .long in omega arith
 
     -- a mark that is met is an earlier output
-    pub run-found : (q : Bool) → q ≡ true → q ≡ marked l y → true ≡ repeatsBy (2 ^ e) g
-    unfolding repeatsBy
+    pub run-found : (q : Bool) → q ≡ true → q ≡ marked l y → true ≡ repeats (2 ^ e) g
+    unfolding repeats
     run-found q h m = sym (any-at (2 ^ e) _ i (omega arith) (sym seen ∙ sym m ∙ h))
 
     pub run-rest : (l₁ : List ℕ) → l₁ ≡ mark l y → drop (2 ^ e / 8) l₁ ≡ drop (2 ^ e / 8) l₀
     run-rest l₁ m = ap (drop (2 ^ e / 8)) m ∙ mark-drop l (2 ^ e / 8) y within ∙ r .rest
 
     pub run-step : (q : Bool) → q ≡ false → q ≡ marked l y → (l₁ : List ℕ) → l₁ ≡ mark l y → Run (2 ^ e) g l₀ l₁ (i + 1)
-    unfolding repeatsBy
+    unfolding repeats
     run-step q h m l₁ is = record {
       most = omega arith;
       long = ap length is ∙ mark-length l y ∙ r .long;
@@ -172,32 +169,5 @@ module _ (e : ℕ) (g : ℕ → ℕ) (l₀ l : List ℕ) (i : ℕ) (r : Run (2 ^
     }
 
   module _ (less : k ≤ i) (ek : k ≡ 2 ^ e) where
-    pub run-none : false ≡ repeatsBy (2 ^ e) g
+    pub run-none : false ≡ repeats (2 ^ e) g
     run-none = let h = r .most in let z : i ≡ 2 ^ e = omega arith in sym (rw z at (r .once))
-
--- ---- what `repeatsBy` says
-
--- where some two are equal, g is not injective
-pub repeats-clash : (n : ℕ) (g : ℕ → ℕ) → repeatsBy n g ≡ true → Injective n g → ⊥
-unfolding repeatsBy
-repeats-clash n g h inj =
-    let a = any-some n (λ i. any i (λ j. eqb (g j) (g i))) h in
-    let b = any-some (a .0) (λ j. eqb (g j) (g (a .0))) (a .2) in
-    let e = inj (b .0) (a .0) (omega (arith, a .1, b .1)) (a .1) (eqb-true _ _ (b .2)) in
-    omega (arith, b .1, e)
-
-equal-repeats : (n : ℕ) (g : ℕ → ℕ) (i j : ℕ) → i < n → j < i → g j ≡ g i → repeatsBy n g ≡ true
-unfolding repeatsBy
-equal-repeats n g i j h l e = any-at n _ i h (any-at i (λ k. eqb (g k) (g i)) j l (eq-eqb _ _ e))
-
--- where none are, it is
-pub none-injective : (n : ℕ) (g : ℕ → ℕ) → repeatsBy n g ≡ false → Injective n g
-none-injective n g h i j li lj e = go (decLt i j) (decLt j i)
-  where
-    go : Dec (i < j) → Dec (j < i) → i ≡ j
-    go (yes l) q = absurd (clash (equal-repeats n g j i lj l e) h)
-    go (no p) (yes l) = absurd (clash (equal-repeats n g i j li l (sym e)) h)
-    go (no p) (no q) = omega arith
-
-pub injective-none : (n : ℕ) (g : ℕ → ℕ) → Injective n g → repeatsBy n g ≡ false
-injective-none n g inj = not-true-false (repeatsBy n g) (λ h. repeats-clash n g h inj)

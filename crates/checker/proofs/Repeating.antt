@@ -2,14 +2,15 @@
 -- Assumes nothing.
 use mathlib.Core.Path.{_≡_, refl, sym, ap, _∙_}
 use mathlib.Core.List.{List}
-use mathlib.Core.Logic.{⊎-elim}
 use mathlib.Core.Bool.{Bool, true, false}
 use Prim.Native.Nat.{ℕ, _+_, _^_, _<_, _≤_}
 use native.Mathlib.Omega.{arith}
 use lib.ListN.{length}
-use Rattle.anf.specs.Tests.{any, first}
-use Rattle.anf.specs.Tables.{repeats}
-use Rattle.anf.proofs.Testing.{first-found, first-none, first-is, any-none, any-none-more, true-or-false, not-true-false}
+use Rattle.finite.specs.Tests.{any}
+use Rattle.finite.specs.Maps.{repeats}
+use Rattle.finite.proofs.Testing.{first-found, first-none, first-is, any-none, any-none-more, first-some, first-past}
+use Rattle.finite.proofs.Maps.{repeats→injective}
+use Rattle.anf.specs.Tables.{entry}
 use Rattle.design.specs.Design.{Design, stageOf}
 use Rattle.design.specs.Reading.{meaning}
 use Rattle.design.specs.Layout.{Describes}
@@ -17,18 +18,10 @@ use Rattle.design.specs.declared.Layout.{Layout}
 use Rattle.design.proofs.Answered.{described}
 use Rattle.checker.specs.Verdict.{firstRepeating}
 use Rattle.checker.specs.Accepted.{TablePermutes}
-use Rattle.checker.proofs.Permutations.{repeats-permutation}
 
 -- the table of stage t repeats an entry
 abbrev pub tableRepeats : Design → ℕ → Bool
-tableRepeats d t = repeats (2 ^ d .m) (stageOf d t .table)
-
--- the lowest place that passes a test, where there is one
-pub first-some : (n : ℕ) (p : ℕ → Bool) → first n p < n → any n p ≡ true
-first-some n p l = ⊎-elim (λ e. e) (λ e. absurd (omega (arith, first-none n p e))) (true-or-false (any n p))
-
-pub first-past : (n : ℕ) (p : ℕ → Bool) → n ≤ first n p → any n p ≡ false
-first-past n p l = not-true-false _ (λ a. omega (arith, first-is n p a))
+tableRepeats d t = repeats (2 ^ d .m) (entry (stageOf d t .table))
 
 module _ (d : Design) where
   pub first-repeats : firstRepeating d < d .k → (tableRepeats d (firstRepeating d) ≡ true) × (any (firstRepeating d) (tableRepeats d) ≡ false)
@@ -40,11 +33,11 @@ module _ (d : Design) where
   none-repeats l = first-past (d .k) (tableRepeats d) l
 
   pub none-permutes : (n : ℕ) → any n (tableRepeats d) ≡ false → (t : ℕ) → t < n → TablePermutes d t
-  none-permutes n e t l = repeats-permutation (d .m) (stageOf d t .table) (any-none n (tableRepeats d) e t l)
+  none-permutes n e t l = repeats→injective (2 ^ d .m) (entry (stageOf d t .table)) (any-none n (tableRepeats d) e t l)
 
 module _ (f : List ℕ) (l : Layout) (d : Describes f l) where
-  pub box-repeats : (b : List ℕ) → b ≡ meaning f .box → repeats (length b) b ≡ repeats (2 ^ meaning f .m) (meaning f .box)
-  box-repeats b e = ap (λ (x : List ℕ). repeats (length x) x) e ∙ ap (λ (n : ℕ). repeats n (meaning f .box)) (described d .formed .box .size)
+  pub box-repeats : (b : List ℕ) → b ≡ meaning f .box → repeats (length b) (entry b) ≡ repeats (2 ^ meaning f .m) (entry (meaning f .box))
+  box-repeats b e = ap (λ (x : List ℕ). repeats (length x) (entry x)) e ∙ ap (λ (n : ℕ). repeats n (entry (meaning f .box))) (described d .formed .box .size)
 
   pub table-size : (t : ℕ) → t < l .head .k → length (stageOf (meaning f) t .table) ≡ 2 ^ meaning f .m
   table-size t h = described d .formed .stage t (let e = described d .k in omega arith) .table .size
@@ -59,9 +52,9 @@ unfolding NoneRepeats any
 none-yet f = refl
 
 module _ (f : List ℕ) (l : Layout) (t : ℕ) (so : NoneRepeats f t) where
-  module _ (h : t < l .head .k) (d : Describes f l) (b : List ℕ) (e : b ≡ stageOf (meaning f) t .table) (r : Bool) (er : r ≡ repeats (length b) b) where
+  module _ (h : t < l .head .k) (d : Describes f l) (b : List ℕ) (e : b ≡ stageOf (meaning f) t .table) (r : Bool) (er : r ≡ repeats (length b) (entry b)) where
     this : tableRepeats (meaning f) t ≡ r
-    this = sym (er ∙ ap (λ (x : List ℕ). repeats (length x) x) e ∙ ap (λ (n : ℕ). repeats n (stageOf (meaning f) t .table)) (table-size f l d t h))
+    this = sym (er ∙ ap (λ (x : List ℕ). repeats (length x) (entry x)) e ∙ ap (λ (n : ℕ). repeats n (entry (stageOf (meaning f) t .table))) (table-size f l d t h))
 
     pub repeating-found : r ≡ true → t ≡ firstRepeating (meaning f)
     unfolding NoneRepeats firstRepeating

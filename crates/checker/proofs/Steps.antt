@@ -7,8 +7,8 @@ use native.Mathlib.Numerals.{add-one}
 use native.Mathlib.Omega.{arith}
 use lib.ListN.{length, drop}
 use lib.Seq.{drop-cons, drop-length}
-use Rattle.anf.specs.Tests.{pick, any, first}
-use Rattle.anf.proofs.Testing.{pick-true, pick-false}
+use Rattle.finite.specs.Tests.{pick, any, first}
+use Rattle.finite.proofs.Testing.{pick-true, pick-false}
 use Rattle.design.specs.Design.{Design, noStage, stageOf}
 use Rattle.threshold.specs.Stages.{correct, readsOwn, uniform}
 use Rattle.checker.specs.Verdict.{answer, stageVerdict, judgeStages}

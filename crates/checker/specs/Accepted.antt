@@ -2,16 +2,13 @@
 use Prim.Native.Nat.{ℕ, _+_, _^_, _<_, _≤_}
 use mathlib.Core.Path.{_≡_}
 use mathlib.Core.List.{List}
-use Rattle.design.specs.Design.{Design, entry, stageOf}
+use Rattle.anf.specs.Tables.{entry, Permutation}
+use Rattle.design.specs.Design.{Design, stageOf}
 use Rattle.design.specs.Reading.{refused, means, reading}
 use Rattle.threshold.specs.Stages.{component, output, Correct, Ignores, NonComplete, Uniform}
 use Rattle.threshold.specs.Chain.{chained}
 use Rattle.checker.specs.Verdict.{answer, workspaceFor}
 use Rattle.checker.specs.declared.Verdict.{Verdict}
-
--- a table of 2^m entries repeats none
-abbrev pub Permutation : ℕ → List ℕ → Type 0
-Permutation m t = (x y : ℕ) → x < 2 ^ m → y < 2 ^ m → entry t x ≡ entry t y → x ≡ y
 
 -- the chain of tables is S
 abbrev pub ChainIsBox : Design → Type 0

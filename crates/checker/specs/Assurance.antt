@@ -5,10 +5,11 @@ use mathlib.Core.Bool.{Bool, true, _&&_}
 use mathlib.Core.List.{List}
 use lib.Dec.{eqb}
 use lib.ListN.{length, getD}
-use Rattle.anf.specs.Tests.{count}
-use Rattle.anf.specs.Sums.{xorBelow}
+use Rattle.finite.specs.Tests.{count}
+use Rattle.finite.specs.Sums.{xorBelow}
+use Rattle.anf.specs.Tables.{entry}
 use Rattle.design.specs.Limits.{greatestShares}
-use Rattle.design.specs.Design.{Design, entry, stageOf}
+use Rattle.design.specs.Design.{Design, stageOf}
 use Rattle.design.specs.Reading.{means, reading}
 use Rattle.threshold.specs.Sharing.{sum, setting}
 use Rattle.threshold.specs.Stages.{component}

@@ -6,7 +6,6 @@ use mathlib.Core.Bool.{Bool, false, not}
 use lib.ListN.{length, getD, set, drop, replicate}
 use lib.Dec.{eqb}
 use lib.Bits.{bitAnd, bitOr}
-use Rattle.anf.specs.Tests.{any}
 use Rattle.design.specs.declared.Layout.{Layout}
 
 -- y is marked
@@ -20,10 +19,6 @@ mark l y = set l (y / 8) (bitOr (getD l (y / 8) 0) (2 ^ (y % 8)))
 -- no number below n is marked
 abbrev pub Clear : ℕ → List ℕ → Type 0
 Clear n l = (y : ℕ) → y < n → marked l y ≡ false
-
--- some two of g 0, g 1, .. g (n - 1) are equal
-unfoldable pub repeatsBy : ℕ → (ℕ → ℕ) → Bool
-repeatsBy n g = any n (λ i. any i (λ j. eqb (g j) (g i)))
 
 -- the first n bytes zero, the rest as it was
 abbrev pub zeroed : ℕ → List ℕ → List ℕ

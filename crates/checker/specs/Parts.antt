@@ -6,8 +6,9 @@ use mathlib.Core.Bool.{Bool, _||_}
 use mathlib.Core.List.{List}
 use lib.ListN.{length, getD}
 use lib.Dec.{eqb, ltb}
-use Rattle.anf.specs.Tests.{pick, all}
-use Rattle.anf.specs.Tables.{repeats}
+use Rattle.finite.specs.Tests.{pick, all}
+use Rattle.finite.specs.Maps.{repeats}
+use Rattle.anf.specs.Tables.{entry}
 use Rattle.design.specs.Limits.{greatestShareBits}
 use Rattle.design.specs.Design.{Design}
 use Rattle.design.specs.StageLists.{AllInside}
@@ -25,7 +26,7 @@ judgedChain d =
 
 -- the workspace after the verdict on a design
 unfoldable pub workspaceOf : Design → List ℕ → List ℕ
-workspaceOf d ws = pick (repeats (2 ^ d .m) (d .box) || ltb (length ws) (workspaceFor d)) ws (zeroed (workspaceFor d) ws)
+workspaceOf d ws = pick (repeats (2 ^ d .m) (entry (d .box)) || ltb (length ws) (workspaceFor d)) ws (zeroed (workspaceFor d) ws)
 
 -- the first 2^m bytes hold what the chain of tables makes of their places
 unfoldable pub Composes : Design → ℕ → List ℕ → Type 0

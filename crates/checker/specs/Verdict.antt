@@ -4,9 +4,10 @@ use mathlib.Core.Bool.{Bool, _||_}
 use mathlib.Core.List.{List, [], _∷_, _++_}
 use lib.ListN.{length, drop, replicate}
 use lib.Dec.{eqb, ltb}
-use Rattle.anf.specs.Tests.{pick, all, any, first}
-use Rattle.anf.specs.Tables.{repeats}
-use Rattle.design.specs.Design.{Stage, Design, entry, stageOf}
+use Rattle.finite.specs.Tests.{pick, all, any, first}
+use Rattle.finite.specs.Maps.{repeats}
+use Rattle.anf.specs.Tables.{entry}
+use Rattle.design.specs.Design.{Stage, Design, stageOf}
 use Rattle.design.specs.Reading.{Reading, refused, means, reading}
 use Rattle.threshold.specs.Stages.{correct, readsOwn, uniform}
 use Rattle.threshold.specs.Chain.{chained}
@@ -25,7 +26,7 @@ chainIsBox d = all (2 ^ d .m) (λ x. eqb (chained (d .stages) x) (entry (d .box)
 
 -- the first stage whose table repeats an entry, counted from 0; their number where there is none
 unfoldable pub firstRepeating : Design → ℕ
-firstRepeating d = first (d .k) (λ t. repeats (2 ^ d .m) (stageOf d t .table))
+firstRepeating d = first (d .k) (λ t. repeats (2 ^ d .m) (entry (stageOf d t .table)))
 
 -- What stage number i answers, where those after it answer `onward`: 12 when not correct, 13 when not non-complete, with the lowest such component,
 -- 14 when not uniform.
@@ -47,7 +48,7 @@ judged d n =
     let tables = pick (ltb (firstRepeating d) (d .k)) (answer 11 (firstRepeating d + 1) 0) stages in
     let chain = pick (chainIsBox d) tables (answer 10 0 0) in
     let room = pick (ltb n (workspaceFor d)) (answer 9 0 0) chain in
-    pick (repeats (2 ^ d .m) (d .box)) (answer 8 0 0) room
+    pick (repeats (2 ^ d .m) (entry (d .box))) (answer 8 0 0) room
 
 unfoldable pub judgedReading : Reading → ℕ → Verdict
 judgedReading (refused reason place) n = answer reason place 0
@@ -61,7 +62,7 @@ verdict f n = judgedReading (reading f) n
 unfoldable pub workspaceAfterReading : Reading → List ℕ → List ℕ
 workspaceAfterReading (refused reason place) ws = ws
 workspaceAfterReading (means d) ws =
-    pick (repeats (2 ^ d .m) (d .box) || ltb (length ws) (workspaceFor d)) ws (replicate (workspaceFor d) 0 ++ drop (workspaceFor d) ws)
+    pick (repeats (2 ^ d .m) (entry (d .box)) || ltb (length ws) (workspaceFor d)) ws (replicate (workspaceFor d) 0 ++ drop (workspaceFor d) ws)
 
 unfoldable pub workspaceAfter : List ℕ → List ℕ → List ℕ
 workspaceAfter f ws = workspaceAfterReading (reading f) ws

@@ -6,7 +6,8 @@ ghost use mathlib.Core.Path.{_≡_};
 ghost use Prim.Native.Nat.{_*_, _/_, _^_, _≤_, _<_};
 ghost use lib.Dec.{eqb};
 ghost use lib.ListN.{length, getD, drop};
-ghost use Rattle.anf.specs.Tests.{first};
+ghost use Rattle.finite.specs.Tests.{first};
+ghost use Rattle.finite.specs.Maps.{repeats};
 ghost use Rattle.design.specs.Limits.{greatestWidth, greatestShares, greatestShareBits};
 ghost use Rattle.design.specs.Design.{stageOf};
 ghost use Rattle.design.specs.Reading.{meaning};
@@ -15,7 +16,7 @@ ghost use Rattle.design.specs.StageLists.{listsOf};
 ghost use Rattle.threshold.specs.Sharing.{sum, variables};
 ghost use Rattle.threshold.specs.Stages.{output, correct, readsOwn};
 ghost use Rattle.checker.specs.Parts.{Standing, agreeing};
-ghost use Rattle.checker.specs.Marks.{Clear, repeatsBy, zeroed, sharingsOf, marksOf, named};
+ghost use Rattle.checker.specs.Marks.{Clear, zeroed, sharingsOf, marksOf, named};
 
 // Whether the output sharing `y` sums to what the table makes of the sum of the sharing `x`.
 fn agrees(table: &[u8], m: usize, s: usize, x: u32, y: u32) -> bool
@@ -31,7 +32,7 @@ fn sharings(bits: usize) -> u32
     requires { ⌜ bits ≤ greatestShareBits ⌝ }
     ensures { λ r. ⌜ (r ≡ 2 ^ bits) × (r < 4294967296) ⌝ }
 {
-    anf::points(bits) as u32
+    finite::power(bits) as u32
 }
 
 // How many bytes hold a mark for each sharing.
@@ -39,7 +40,7 @@ pub fn mark_bytes(layout: Layout) -> usize
     requires { ⌜ layout .head .m * layout .head .s ≤ greatestShareBits ⌝ }
     ensures { λ r. ⌜ r ≡ marksOf layout ⌝ }
 {
-    anf::points(layout.head.m * layout.head.s) / 8
+    finite::power(layout.head.m * layout.head.s) / 8
 }
 
 // Whether the lists that start where `starts` has it from `first` on agree with the table: all sharings are tried, up to the first that is wrong.
@@ -76,7 +77,7 @@ fn own_variables(m: usize, j: usize) -> u32
     requires { ⌜ (m ≤ greatestWidth) × (j < greatestShares) ⌝ }
     ensures { λ r. ⌜ r ≡ variables m j ⌝ }
 {
-    ((anf::points(m) - 1) as u32) << ((m * j) as u32)
+    ((finite::power(m) - 1) as u32) << ((m * j) as u32)
 }
 
 // Whether a term names a variable of the group.
@@ -119,7 +120,7 @@ pub fn offending(file: &[u8], layout: Layout, t: usize) -> usize
 // Marks the output of each sharing, up to the first that is marked already, and answers whether there is one.
 fn mark_all(file: &[u8], starts: &[usize], first: usize, count: usize, workspace: &mut [u8]) -> bool
     requires { ⌜ Standing (now file) (now starts) first count × (3 ≤ count) × (2 ^ count / 8 ≤ length (now workspace)) × Clear (2 ^ count) (now workspace) ⌝ }
-    ensures { λ r. ⌜ r ≡ repeatsBy (2 ^ count) (output (listsOf (now (file .entry)) (now (starts .entry)) first count)) ⌝ }
+    ensures { λ r. ⌜ r ≡ repeats (2 ^ count) (output (listsOf (now (file .entry)) (now (starts .entry)) first count)) ⌝ }
     ensures { λ _. ⌜ drop (2 ^ count / 8) (now (workspace .exit)) ≡ drop (2 ^ count / 8) (now (workspace .entry)) ⌝ }
 {
     let n = sharings(count);
@@ -137,7 +138,7 @@ fn mark_all(file: &[u8], starts: &[usize], first: usize, count: usize, workspace
 // Whether two sharings give one output of stage `t`. The workspace that the marks take is zero afterwards.
 pub fn meets_twice(file: &[u8], layout: Layout, t: usize, workspace: &mut [u8]) -> bool
     requires { ⌜ Describes (now file) layout × (t < layout .head .k) × (marksOf layout ≤ length (now workspace)) ⌝ }
-    ensures { λ r. ⌜ r ≡ repeatsBy (sharingsOf layout) (output (stageOf (meaning (now (file .entry))) t .lists)) ⌝ }
+    ensures { λ r. ⌜ r ≡ repeats (sharingsOf layout) (output (stageOf (meaning (now (file .entry))) t .lists)) ⌝ }
     ensures { λ _. ⌜ now (workspace .exit) ≡ zeroed (marksOf layout) (now (workspace .entry)) ⌝ }
 {
     let starts = layout.starts;

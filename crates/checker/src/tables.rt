@@ -1,5 +1,6 @@
 // The tables: their chain, and the first that repeats an entry. A table has at most 64 entries, 2 to the power of the greatest width.
 use design::Layout;
+use finite::wide;
 ghost use mathlib.Core.Path.{_≡_};
 ghost use Prim.Native.Nat.{ℕ, _≤_, _<_};
 ghost use lib.ListN.{length, getD};
@@ -7,12 +8,6 @@ ghost use Rattle.design.specs.Reading.{meaning};
 ghost use Rattle.design.specs.Layout.{Describes};
 ghost use Rattle.checker.specs.Verdict.{chainIsBox, firstRepeating};
 ghost use Rattle.checker.specs.Parts.{Composes};
-
-fn wide(x: u8) -> usize
-    ensures { λ r. ⌜ r ≡ x ⌝ }
-{
-    x as usize
-}
 
 // The numbers 0 to 63, each at its own place.
 fn identity() -> [u8; 64]
@@ -47,7 +42,7 @@ fn composed(file: &[u8], layout: Layout) -> [u8; 64]
     requires { ⌜ Describes (now file) layout ⌝ }
     ensures { λ r. ⌜ Composes (meaning (now (file .entry))) (layout .head .m) r ⌝ }
 {
-    let n = anf::points(layout.head.m);
+    let n = finite::power(layout.head.m);
     let k = layout.head.k;
     let mut c = identity();
     let mut t: usize = 0;

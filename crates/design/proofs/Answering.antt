@@ -11,7 +11,7 @@ use lib.ListN.{length, getD, set, length-set}
 use lib.Seq.{getD-set-same, getD-set-other}
 use mir.Syntax.{w64}
 use mir.Val.{Fits}
-use Rattle.anf.specs.Tests.{pick}
+use Rattle.finite.specs.Tests.{pick}
 use Rattle.design.specs.Bytes.{byte, u16At}
 use Rattle.design.specs.Layout.{checked, Limits, Answers}
 use Rattle.design.specs.Limits.{broken}

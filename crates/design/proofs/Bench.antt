@@ -2,7 +2,7 @@
 use Prim.Native.Nat.{ℕ}
 use mathlib.Core.Path.{_≡_, refl}
 use mathlib.Core.List.{map}
-use Rattle.anf.specs.Tests.{all, tabulate}
+use Rattle.finite.specs.Tests.{all, tabulate}
 use Rattle.anf.specs.Terms.{before}
 use Rattle.design.specs.Limits.{broken}
 use Rattle.design.specs.Bytes.{u16At, u32At, termBytes}

@@ -4,8 +4,22 @@ use Prim.Native.Nat.{ℕ, zero, suc, _+_, _*_, _-_, _/_, _%_, _^_, _≤_, _<_}
 use mathlib.Core.Path.{_≡_, refl, sym, ap, _∙_}
 use mathlib.Core.List.{List, [], _∷_, _++_}
 use mathlib.Core.Bool.{true, _||_}
+use Rattle.finite.specs.Tests.{tabulate}
+use Rattle.finite.proofs.Testing.{all-intro}
 use Rattle.anf.specs.Terms.{before}
-use Rattle.anf.proofs.Testing.{all-intro}
+use Rattle.design.specs.Limits.{greatestTerms}
+use Rattle.design.specs.Bytes.{byte, u16At, u32At, two, four, termBytes}
+use Rattle.design.specs.Design.{Design, Stage, noStage, stageOf, listOf, TableFits, ListFits, WellFormed}
+use Rattle.design.specs.Encode.{join, aRecord}
+use Rattle.design.specs.Reading.{lastOf, numberOf, kindDue, sizeDue, lengthDue, frame, entryFits, previous, termFits, body, faultAt, means, reading, walk, place, headOf, meaning, stageAt, tableAt, listAt}
+use Rattle.design.specs.declared.Head.{Head}
+use Rattle.design.proofs.Flat.{headFor, stageBody, bodyOf, recordOf, flat}
+use Rattle.design.proofs.Records.{body-2, body-3, body-4, fault-body, entry-fits, term-fits}
+use Rattle.design.proofs.Walking.{place-next}
+use Rattle.design.proofs.TermBytes.{little-four, length-termBytes}
+use Rattle.design.proofs.Found.{staged, record-cases, number-low}
+use Rattle.design.proofs.Joined.{tabulate-of, join-snoc, join-at}
+use Rattle.design.proofs.Written.{body-stage, body-end, kind-end, last-two}
 use native.Mathlib.Omega.{arith}
 use native.Mathlib.Numerals.{add-one}
 use native.Mathlib.Nat.{add-zero}
@@ -13,20 +27,6 @@ use borrow.Author.Tests.{le-ltb, le-leb, eq-eqb, ne-eqb}
 use lib.ListN.{length, getD, drop, length-drop, length-append, List·getD-append}
 use lib.Seq.{getD-drop, drop-drop, drop-append-seam, take-append-seam, drop-append-le}
 use lib.Dec.{eqb}
-use Rattle.anf.specs.Tests.{tabulate}
-use Rattle.design.proofs.Flat.{headFor, stageBody, bodyOf, recordOf, flat}
-use Rattle.design.specs.Limits.{greatestTerms}
-use Rattle.design.specs.Bytes.{byte, u16At, u32At, two, four, termBytes}
-use Rattle.design.specs.Design.{Design, Stage, noStage, stageOf, listOf, TableFits, ListFits, WellFormed}
-use Rattle.design.specs.Encode.{join, aRecord}
-use Rattle.design.specs.Reading.{lastOf, numberOf, kindDue, sizeDue, lengthDue, frame, entryFits, previous, termFits, body, faultAt, means, reading, walk, place, headOf, meaning, stageAt, tableAt, listAt}
-use Rattle.design.specs.declared.Head.{Head}
-use Rattle.design.proofs.Records.{body-2, body-3, body-4, fault-body, entry-fits, term-fits}
-use Rattle.design.proofs.Walking.{place-next}
-use Rattle.design.proofs.TermBytes.{little-four, length-termBytes}
-use Rattle.design.proofs.Found.{staged, record-cases, number-low}
-use Rattle.design.proofs.Joined.{tabulate-of, join-snoc, join-at}
-use Rattle.design.proofs.Written.{body-stage, body-end, kind-end, last-two}
 
 -- what stands at a place: a number of two bytes, of four bytes
 module _ (f : List ℕ) (at : ℕ) where

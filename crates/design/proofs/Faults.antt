@@ -9,9 +9,9 @@ use native.Mathlib.Omega.{arith}
 use borrow.Author.Tests.{lt-ltb, le-ltb, eq-eqb, ne-eqb, not-true, not-false}
 use lib.ListN.{length, getD}
 use lib.Dec.{leb, eqb}
-use Rattle.anf.specs.Tests.{all}
+use Rattle.finite.specs.Tests.{all}
+use Rattle.finite.proofs.Testing.{all-fails, all-more}
 use Rattle.anf.specs.Terms.{before}
-use Rattle.anf.proofs.Testing.{all-fails, all-more}
 use Rattle.design.specs.Bytes.{u16At, u32At}
 use Rattle.design.specs.Reading.{kindDue, sizeDue, lengthDue, frame, entryFits, previous, termFits, faultAt}
 use Rattle.design.specs.declared.Head.{Head}

@@ -3,7 +3,7 @@ use Prim.Native.Nat.{ℕ, zero, suc, _+_, _*_, _-_, _/_, _%_}
 use mathlib.Core.List.{List, []}
 use lib.ListN.{getD}
 use lib.Dec.{eqb}
-use Rattle.anf.specs.Tests.{pick, tabulate}
+use Rattle.finite.specs.Tests.{pick, tabulate}
 use Rattle.design.specs.Bytes.{termBytes}
 use Rattle.design.specs.Design.{Stage, Design, stageOf}
 use Rattle.design.specs.Encode.{join, aRecord, headBody}

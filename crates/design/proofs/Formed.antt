@@ -8,9 +8,9 @@ use borrow.Author.Tests.{ltb-true, eqb-true, ne-eqb}
 use lib.ListN.{length, getD, drop, length-drop}
 use lib.Seq.{getD-take, getD-drop, length-take-le}
 use lib.Dec.{eqb, lit<}
-use Rattle.anf.specs.Tests.{all, tabulate}
+use Rattle.finite.specs.Tests.{all, tabulate}
+use Rattle.finite.proofs.Testing.{and-left, and-right, all-at, tabulate-length, tabulate-at}
 use Rattle.anf.specs.Terms.{before}
-use Rattle.anf.proofs.Testing.{and-left, and-right, all-at, tabulate-length, tabulate-at}
 use Rattle.design.specs.Limits.{greatestTerms}
 use Rattle.design.specs.Bytes.{byte, u16At, u32At}
 use Rattle.design.specs.Design.{TableFits, ListFits, StageFits, WellFormed}

@@ -13,7 +13,8 @@ use lib.ListN.{length, getD, take, drop}
 use lib.Seq.{getD-take, getD-drop}
 use lib.Arith.{digits-lt, digits-mod, digits-div}
 use lib.Dec.{ltb, eqb, lit<}
-use Rattle.anf.specs.Tests.{pick}
+use Rattle.finite.specs.Tests.{pick}
+use Rattle.finite.proofs.Testing.{tabulate-at}
 use Rattle.design.specs.Limits.{greatestTerms}
 use Rattle.design.specs.Bytes.{byte, u16At}
 use Rattle.design.specs.Design.{Design, noStage, stageOf, listOf}
@@ -21,7 +22,6 @@ use Rattle.design.specs.Layout.{Limits, Describes}
 use Rattle.design.specs.Reading.{lastOf, numberOf, kindDue, sizeDue, lengthDue, faultAt, Reading, refused, means, reading, walk, place, headOf, meaning, stageAt, tableAt, listAt}
 use Rattle.design.specs.declared.Head.{Head}
 use Rattle.design.specs.declared.Layout.{Layout}
-use Rattle.anf.proofs.Testing.{tabulate-at}
 use Rattle.design.proofs.Limits.{Bounds, bounds}
 use Rattle.design.proofs.Records.{Framed, past}
 use Rattle.design.proofs.Walking.{frame-none, fault-framed, head-body, place-next}

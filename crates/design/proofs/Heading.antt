@@ -78,14 +78,14 @@ module _ (m s k : ℕ) (l : broken m s k ≡ false) where
   pub last-low : 2 + k * (1 + m * s) < 87
   last-low = let b = bounds m s k l in omega (arith, records (b .k-high) (b .bits))
 
-  pub width-small : m ≤ greatestShareBits
+  pub width-small : m < 64
   width-small = omega (arith, bounds m s k l .m-high)
 
-  pub bits-small : m * s ≤ greatestShareBits
-  bits-small = bounds m s k l .bits
+  pub bits-small : m * s < 64
+  bits-small = omega (arith, bounds m s k l .bits)
 
   pub points-fit : (p : ℕ) → p ≡ 2 ^ (m * s) → Fits w32 p
-  points-fit p e = record { fits = omega (arith, pow-mono (bits-small)) }
+  points-fit p e = record { fits = omega (arith, pow-mono (bounds m s k l .bits)) }
 
   -- record l of stage t
   module _ (t r : ℕ) (a : t < k) (b : r ≤ m * s) where

@@ -6,9 +6,9 @@ use native.Mathlib.Omega.{arith}
 use native.Mathlib.Decide.{decLt}
 use lib.ListN.{length, getD}
 use lib.Seq.{ext-getD}
-use Rattle.anf.specs.Tests.{tabulate}
+use Rattle.finite.specs.Tests.{tabulate}
+use Rattle.finite.proofs.Testing.{tabulate-length, tabulate-at}
 use Rattle.design.specs.Encode.{join}
-use Rattle.anf.proofs.Testing.{tabulate-length, tabulate-at}
 
 module _ {A : Type 0} where
   pub tabulate-of : (xs : List A) (n : ℕ) (g : ℕ → A) (d : A) → length xs ≡ n → ((i : ℕ) → i < n → g i ≡ getD xs i d) → tabulate n g ≡ xs

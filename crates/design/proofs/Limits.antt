@@ -5,9 +5,9 @@ use mathlib.Core.Bool.{Bool, true, false}
 use native.Mathlib.Omega.{arith}
 use native.Mathlib.Nat.{mul-le-mul}
 use borrow.Author.Tests.{ltb-false}
+use Rattle.finite.specs.Tests.{pick}
+use Rattle.finite.proofs.Testing.{or-false}
 use Rattle.design.specs.Limits.{greatestWidth, leastShares, greatestShares, greatestShareBits, greatestStages, broken}
-use Rattle.anf.proofs.Testing.{or-false}
-use Rattle.anf.specs.Tests.{pick}
 use Rattle.design.specs.Layout.{checked, refusalOf}
 use Rattle.design.specs.declared.Checked.the-variants.{Good, Beyond}
 

@@ -1,14 +1,10 @@
 -- The numbers that `pair`, `word` and `power` answer, over plain values.
 -- Assumes nothing.
-use Prim.Native.Nat.{ℕ, _+_, _*_, _%_, _^_, _≤_, _<_}
-use mathlib.Core.Path.{_≡_, _∙_}
+use Prim.Native.Nat.{ℕ, _+_, _*_, _<_}
+use mathlib.Core.Path.{_≡_}
 use mathlib.Core.List.{List}
-use native.Mathlib.Nat.{one-mul}
 use native.Mathlib.Omega.{arith}
-use lib.Dec.{lit<}
 use lib.ListN.{getD}
-use lib.Pow.{shl-exact}
-use Rattle.design.specs.Limits.{greatestShareBits}
 use Rattle.design.specs.Bytes.{u16At, u32At}
 
 -- a, b, c, d are the bytes
@@ -23,6 +19,3 @@ module _ (f : List ℕ) (at a b : ℕ) (ea : a ≡ getD f at 0) (eb : b ≡ getD
 
 pub pair-low : (a b : ℕ) → a < 256 → b < 256 → a + 256 * b < 65536
 pair-low a b h k = omega arith
-
-pub power-is : (e : ℕ) → e ≤ greatestShareBits → 1 * 2 ^ e % 2 ^ 64 ≡ 2 ^ e
-power-is e h = shl-exact 1 e 64 (lit< tt) (omega arith) ∙ one-mul _

@@ -8,9 +8,9 @@ use native.Mathlib.Numerals.{add-one, towards-suc}
 use native.Mathlib.Nat.{zero-add}
 use lib.ListN.{length, getD, set, take, drop, length-append, length-set}
 use lib.Seq.{sets, sets-eq, paste, paste-zero, paste-suc, take-length, length-take-le, drop-drop, take-at, drop-at, take-append-seam, drop-append-seam, drop-append-add, length-paste}
+use Rattle.finite.specs.Tests.{total}
+use Rattle.finite.proofs.Counting.{total-congr}
 use Rattle.design.specs.Bytes.{termBytes, overwrite}
-use Rattle.anf.specs.Tests.{total}
-use Rattle.anf.proofs.Counting.{total-congr}
 use Rattle.design.specs.Design.{Stage, Design, noStage, stageOf}
 use Rattle.design.specs.Encode.{join, recordHead, aRecord, headBody, stageBytes, encode}
 use Rattle.design.proofs.TermBytes.{length-termBytes}

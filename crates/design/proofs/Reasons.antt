@@ -7,10 +7,10 @@ use native.Mathlib.Omega.{arith}
 use borrow.Author.Tests.{eqb-false}
 use lib.ListN.{length}
 use lib.Dec.{ltb, eqb}
-use Rattle.anf.specs.Tests.{pick, all}
+use Rattle.finite.specs.Tests.{pick, all}
 use Rattle.design.specs.Limits.{broken}
 use Rattle.design.specs.Bytes.{u16At}
-use Rattle.design.specs.Reading.{Reading, refused, means, lastOf, headOf, kindDue, sizeDue, lengthDue, frame, entryFits, termFits, body, faultAt, meaning, walk, reading}
+use Rattle.design.specs.Reading.{refused, means, lastOf, headOf, kindDue, sizeDue, lengthDue, frame, entryFits, termFits, body, faultAt, meaning, walk, reading}
 use Rattle.design.specs.declared.Head.{Head}
 
 pick-most : (n : ℕ) (b : Bool) (x y : ℕ) → x ≤ n → y ≤ n → pick b x y ≤ n

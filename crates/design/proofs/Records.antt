@@ -8,12 +8,12 @@ use native.Mathlib.Numerals.{add-one}
 use borrow.Author.Tests.{ltb-false, eqb-true, lt-ltb, le-ltb, ne-eqb, not-false}
 use lib.ListN.{length}
 use lib.Dec.{eqb, lit<}
-use Rattle.anf.specs.Tests.{pick, all}
+use Rattle.finite.specs.Tests.{pick, all}
+use Rattle.finite.proofs.Testing.{and-false-right}
+use Rattle.anf.specs.Terms.{before}
 use Rattle.design.specs.Bytes.{byte, u16At, u32At}
 use Rattle.design.specs.Reading.{lastOf, kindDue, sizeDue, lengthDue, frame, entryFits, previous, termFits, body, faultAt}
 use Rattle.design.specs.declared.Head.{Head}
-use Rattle.anf.specs.Terms.{before}
-use Rattle.anf.proofs.Testing.{and-false-right}
 
 module _ (f : List ℕ) (start bound x : ℕ) where
   pub entry-high : bound ≤ byte f (start + x) → entryFits f start bound x ≡ false

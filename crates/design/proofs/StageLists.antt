@@ -6,7 +6,7 @@ use native.Mathlib.Omega.{arith}
 use lib.Arith.{digits-lt}
 use lib.ListN.{length, getD, take, drop, length-take, length-drop}
 use lib.Seq.{ext-getD, getD-take, getD-drop, take-all}
-use Rattle.anf.proofs.Testing.{tabulate-length, tabulate-at}
+use Rattle.finite.proofs.Testing.{tabulate-length, tabulate-at}
 use Rattle.design.specs.Bytes.{Bytes, u16At, terms, termBytes}
 use Rattle.design.specs.Design.{stageOf, listOf}
 use Rattle.design.specs.Reading.{headOf, lastOf, numberOf, place, meaning}

@@ -11,9 +11,9 @@ use mir.Syntax.{w8, w64}
 use mir.Val.{Fits}
 use borrow.Rule.Slice.Know.{Fit}
 use borrow.Table.Referent.{fInt}
-use Rattle.design.specs.Limits.{greatestShareBits}
+use Rattle.anf.specs.Tables.{entry}
 use Rattle.design.specs.Bytes.{u16At, termBytes}
-use Rattle.design.specs.Design.{entry, stageOf, listOf}
+use Rattle.design.specs.Design.{stageOf, listOf}
 use Rattle.design.specs.Layout.{Describes}
 use Rattle.design.specs.Reading.{numberOf, meaning}
 use Rattle.design.specs.declared.Layout.{Layout}
@@ -25,7 +25,7 @@ slice-is : (f b : List ℕ) (from n k : ℕ) → Part f from k b → n ≡ k →
 slice-is f b from n k p e = ap (λ (x : ℕ). take x (drop from f)) (add-sub-cancel-left from n ∙ e) ∙ p .is
 
 module _ (f : List ℕ) (l : Layout) (d : Describes f l) where
-  pub width-small : l .head .m ≤ greatestShareBits
+  pub width-small : l .head .m < 64
   width-small = omega (arith, limited f l d .m-high)
 
   pub list-fits : (x : ℕ) → x < l .head .m * l .head .s → Fits w64 (x + 1)

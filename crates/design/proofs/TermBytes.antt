@@ -12,9 +12,9 @@ use mir.Syntax.{w64}
 use mir.Val.{Fits}
 use lib.Bits.{bitAnd, bitOr, bitXor, xor-self, xor-zero-r, or-add-and}
 use borrow.Author.Tests.{eq-eqb, ne-eqb}
-use Rattle.anf.proofs.Xor.{xor-cancel, xor-ac, bit-cases}
-use Rattle.anf.specs.Tests.{pick}
-use Rattle.anf.specs.NormalForm.{subset}
+use Rattle.finite.specs.Tests.{pick}
+use Rattle.finite.specs.Sets.{subset}
+use Rattle.finite.proofs.Xor.{xor-cancel, xor-ac, bit-cases}
 use Rattle.anf.specs.Terms.{before, valueAt}
 use Rattle.design.specs.Bytes.{little, u32At, termBytes, terms}
 

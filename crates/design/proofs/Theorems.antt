@@ -1,6 +1,6 @@
 -- The file's two theorems. Reading gives d exactly when d is well formed and the file is the one of d; files that read and have equal m, s, k,
 -- equal tables and equal component functions are equal byte for byte, since equal functions have equal lists.
-use Prim.Native.Nat.{ℕ, _*_, _^_, _<_}
+use Prim.Native.Nat.{ℕ, _*_, _<_}
 use mathlib.Core.Path.{_≡_, refl, sym, ap, _∙_}
 use mathlib.Core.List.{List, []}
 use mathlib.Core.Logic.{_↔_}

@@ -9,7 +9,7 @@ use native.Mathlib.Numerals.{add-one}
 use borrow.Author.Tests.{eqb-true, lt-ltb, le-ltb, ne-eqb}
 use lib.ListN.{length}
 use lib.Dec.{eqb}
-use Rattle.anf.specs.Tests.{pick}
+use Rattle.finite.specs.Tests.{pick}
 use Rattle.design.specs.Bytes.{byte, u16At}
 use Rattle.design.specs.Limits.{broken}
 use Rattle.design.specs.Reading.{lastOf, kindDue, sizeDue, lengthDue, frame, body, faultAt, refused, means, reading, walk, place, headOf, meaning}

@@ -10,8 +10,8 @@ use borrow.Author.Tests.{leb-true, eqb-true, eq-eqb, ne-eqb}
 use lib.ListN.{length, getD, take, drop, length-drop}
 use lib.Seq.{take-add, take-all, drop-cons, length-take-le}
 use lib.Dec.{eqb}
-use Rattle.anf.specs.Tests.{tabulate}
-use Rattle.design.proofs.Flat.{headFor, stageBody, bodyOf, recordOf, flat}
+use Rattle.finite.specs.Tests.{tabulate}
+use Rattle.finite.proofs.Testing.{tabulate-congr, and-left, and-right}
 use Rattle.design.specs.Limits.{greatestTerms}
 use Rattle.design.specs.Bytes.{byte, u16At, u32At, termBytes, Bytes}
 use Rattle.design.specs.Design.{Design, stageOf, listOf}
@@ -20,7 +20,7 @@ use Rattle.design.specs.Layout.{Describes}
 use Rattle.design.specs.Reading.{lastOf, numberOf, kindDue, sizeDue, lengthDue, means, reading, place, headOf, meaning, stageAt, tableAt, listAt}
 use Rattle.design.specs.declared.Head.{Head}
 use Rattle.design.specs.declared.Layout.{Layout}
-use Rattle.anf.proofs.Testing.{tabulate-congr, and-left, and-right}
+use Rattle.design.proofs.Flat.{headFor, stageBody, bodyOf, recordOf, flat}
 use Rattle.design.proofs.Records.{Framed}
 use Rattle.design.proofs.Walking.{frame-none, fault-framed, head-size}
 use Rattle.design.proofs.Found.{number-two, number-low, number-div, number-mod, record-cases, ends, fine, stage-is, list-is, table-framed, list-framed, Part}

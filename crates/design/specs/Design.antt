@@ -5,6 +5,7 @@ use mathlib.Core.Bool.{false}
 use mathlib.Core.List.{List, []}
 use lib.ListN.{length, getD}
 use Rattle.anf.specs.Terms.{TermList, valueAt}
+use Rattle.anf.specs.Tables.{entry}
 use Rattle.design.specs.Limits.{greatestTerms, broken}
 
 -- A stage: its table G, and its m × s lists of terms, component 1 first and in each component bit 0 first.
@@ -20,10 +21,6 @@ pub record Design : Type 0 where
   pub k : ℕ
   pub box : List ℕ
   pub stages : List Stage
-
--- the entry of a table at x
-abbrev pub entry : List ℕ → ℕ → ℕ
-entry t x = getD t x 0
 
 abbrev pub noStage : Stage
 noStage = record { table = []; lists = [] }

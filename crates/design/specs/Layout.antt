@@ -4,7 +4,7 @@ use mathlib.Core.Path.{_≡_}
 use mathlib.Core.Bool.{false}
 use mathlib.Core.List.{List}
 use lib.ListN.{getD}
-use Rattle.anf.specs.Tests.{pick}
+use Rattle.finite.specs.Tests.{pick}
 use Rattle.design.specs.Limits.{broken}
 use Rattle.design.specs.Reading.{means, headOf, lastOf, place, meaning, reading, reasonOf, placeOf}
 use Rattle.design.specs.declared.Head.{Head}

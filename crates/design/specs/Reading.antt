@@ -4,7 +4,7 @@ use mathlib.Core.List.{List}
 use mathlib.Core.Bool.{Bool, _&&_, _||_, not}
 use lib.ListN.{length, take, drop}
 use lib.Dec.{ltb, leb, eqb}
-use Rattle.anf.specs.Tests.{pick, all, tabulate}
+use Rattle.finite.specs.Tests.{pick, all, tabulate}
 use Rattle.anf.specs.Terms.{before}
 use Rattle.design.specs.Limits.{greatestTerms, broken}
 use Rattle.design.specs.Design.{Stage, Design}

@@ -2,7 +2,7 @@
 use Prim.Native.Nat.{ℕ, _+_, _-_, _≤_, _<_}
 use mathlib.Core.List.{List}
 use lib.ListN.{length, getD, take, drop}
-use Rattle.anf.specs.Tests.{tabulate}
+use Rattle.finite.specs.Tests.{tabulate}
 use Rattle.design.specs.Bytes.{terms}
 
 -- the body that starts at a place, where the next one is known to start: four bytes stand between them, the next head

@@ -1,15 +1,9 @@
 // Numbers in a file, little-endian.
+use finite::wide;
 ghost use mathlib.Core.Path.{_≡_};
-ghost use Prim.Native.Nat.{_+_, _^_, _≤_, _<_};
+ghost use Prim.Native.Nat.{_+_, _≤_, _<_};
 ghost use lib.ListN.{length};
-ghost use Rattle.design.specs.Limits.{greatestShareBits};
 ghost use Rattle.design.specs.Bytes.{u16At, u32At};
-
-pub fn wide(b: u8) -> usize
-    ensures { λ r. ⌜ (r ≡ b) × (r < 256) ⌝ }
-{
-    b as usize
-}
 
 fn long(b: u8) -> u32
     ensures { λ r. ⌜ (r ≡ b) × (r < 256) ⌝ }
@@ -34,12 +28,4 @@ pub fn word(file: &[u8], at: usize) -> u32
         + 256 * long(file[at + 1])
         + 65536 * long(file[at + 2])
         + 16777216 * long(file[at + 3])
-}
-
-// 2 to the power of `e`.
-pub fn power(e: usize) -> usize
-    requires { ⌜ e ≤ greatestShareBits ⌝ }
-    ensures { λ r. ⌜ r ≡ 2 ^ e ⌝ }
-{
-    1 << e
 }

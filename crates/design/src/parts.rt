@@ -2,13 +2,13 @@
 use super::Head;
 use super::Layout;
 use super::bytes::pair;
-use super::bytes::power;
+use finite::power;
 ghost use mathlib.Core.Path.{_≡_};
 ghost use Prim.Native.Nat.{_*_, _^_, _≤_, _<_};
 ghost use lib.ListN.{getD};
+ghost use Rattle.anf.specs.Tables.{entry as entryOf};
 ghost use Rattle.design.specs.Bytes.{termBytes};
 ghost use Rattle.design.specs.Design.{stageOf, listOf};
-ghost use Rattle.design.specs.Design.{entry as entryOf};
 ghost use Rattle.design.specs.Reading.{lastOf, numberOf, meaning};
 ghost use Rattle.design.specs.Layout.{Limits, Describes};
 ghost use Rattle.design.specs.StageLists.{bodyAt, Inside};

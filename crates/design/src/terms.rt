@@ -4,8 +4,8 @@ ghost use mathlib.Core.Path.{_≡_};
 ghost use Prim.Native.Nat.{_%_, _<_};
 ghost use lib.ListN.{length, getD};
 ghost use lib.Bits.{bitXor};
-ghost use Rattle.anf.specs.Tests.{pick};
-ghost use Rattle.anf.specs.NormalForm.{subset};
+ghost use Rattle.finite.specs.Tests.{pick};
+ghost use Rattle.finite.specs.Sets.{subset};
 ghost use Rattle.anf.specs.Terms.{before, valueAt};
 ghost use Rattle.design.specs.Bytes.{terms};
 

@@ -6,10 +6,11 @@ use mathlib.Core.List.{List, [], _∷_}
 use Prim.Native.Nat.{ℕ, _+_, _*_, _/_, _^_, _≤_, _<_}
 use native.Mathlib.Omega.{arith}
 use Rattle.anf.specs.NormalForm.{degree}
-use Rattle.design.specs.Design.{Design, Stage, entry, stageOf}
+use Rattle.anf.specs.Tables.{entry, Permutation}
+use Rattle.design.specs.Design.{Design, Stage, stageOf}
 use Rattle.design.specs.Reading.{refused, means, reading}
 use Rattle.checker.specs.Verdict.{answer, workspaceFor, verdict}
-use Rattle.checker.specs.Accepted.{Permutation, ChainIsBox, TablePermutes, CorrectAt, IgnoresOwn, Explained, refusal, fault-8, fault-9, fault-10, fault-11, fault-12, fault-13, fault-14, accepted}
+use Rattle.checker.specs.Accepted.{ChainIsBox, TablePermutes, CorrectAt, IgnoresOwn, Explained, refusal, fault-8, fault-9, fault-10, fault-11, fault-12, fault-13, fault-14, accepted}
 use Rattle.checker.specs.declared.Verdict.{Verdict}
 use Rattle.checker.proofs.Exactly.{explained}
 use Rattle.producer.specs.Direct.{directStage, directSharing, Box}

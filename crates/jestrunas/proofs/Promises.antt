@@ -8,36 +8,37 @@ use mathlib.Core.List.{List, [], _∷_, _++_, map}
 use Prim.Native.Nat.{ℕ, _^_, _≤_, _<_}
 use lib.Count.{ones}
 use lib.ListN.{length, getD, take, drop}
-use Rattle.anf.specs.Sums.{xorBelow}
+use Rattle.finite.specs.Sums.{xorBelow}
 use Rattle.anf.specs.NormalForm.{subsetSum, degree}
 use Rattle.anf.specs.Terms.{valueAt, TermList, names, Depends}
-use Rattle.anf.specs.Points.{Points, Ignores}
+use Rattle.anf.specs.Points.{Points, IgnoresPoint}
 use Rattle.anf.specs.Transform.{transformReason, transformAfter}
 use Rattle.anf.specs.Bench as bench-anf
+use Rattle.anf.specs.Tables.{entry}
+use Rattle.anf.proofs.Transform.{subsetSum-twice}
+use Rattle.anf.proofs.Terms.{unique-terms, names-exactly}
+use Rattle.anf.proofs.Degree.{shares-bound}
+use Rattle.anf.proofs.Answers.{transform-back}
+use Rattle.anf.proofs.Bench as anf-bench
 use Rattle.design.specs.Bytes.{Bytes}
-use Rattle.design.specs.Design.{Design, WellFormed, SameMeaning, entry}
+use Rattle.design.specs.Design.{Design, WellFormed, SameMeaning}
 use Rattle.design.specs.Encode.{encode}
 use Rattle.design.specs.Reading.{means, reading}
 use Rattle.design.specs.Bench as bench-design
+use Rattle.design.proofs.Theorems as design-theorems
+use Rattle.design.proofs.Bench as design-bench
 use Rattle.threshold.specs.Stages.{Correct, NonComplete, component}
 use Rattle.threshold.specs.Running.{running}
 use Rattle.checker.specs.Verdict.{answer, workspaceFor, verdict}
 use Rattle.checker.specs.Accepted.{Accepted, Explained}
 use Rattle.checker.specs.Assurance.{Assured, Blind}
 use Rattle.checker.specs.Bench as bench-checker
-use Rattle.producer.specs.Direct.{directStage, directSharing, Shareable, Box}
-use Rattle.producer.specs.Producing.{produced, producedReason, producing, outputAfter}
-use Rattle.producer.specs.Bench as bench-producer
-use Rattle.anf.proofs.Transform.{subsetSum-twice}
-use Rattle.anf.proofs.Terms.{unique-terms, names-exactly}
-use Rattle.anf.proofs.Degree.{shares-bound}
-use Rattle.anf.proofs.Answers.{transform-back}
-use Rattle.anf.proofs.Bench as anf-bench
-use Rattle.design.proofs.Theorems as design-theorems
-use Rattle.design.proofs.Bench as design-bench
 use Rattle.checker.proofs.Exactly as exactly
 use Rattle.checker.proofs.Assurance as assured
 use Rattle.checker.proofs.Bench as checker-bench
+use Rattle.producer.specs.Direct.{directStage, directSharing, Shareable, Box}
+use Rattle.producer.specs.Producing.{produced, producedReason, producing, outputAfter}
+use Rattle.producer.specs.Bench as bench-producer
 use Rattle.producer.proofs.Theorems.{produced-sound, sixteen-exactly, output-file}
 use Rattle.producer.proofs.Bench as producer-bench
 use Rattle.jestrunas.proofs.Produced.{produced-verdict}
@@ -63,7 +64,7 @@ pub dependence : (n group : ℕ) (l : List ℕ) → TermList n l → (names grou
 dependence = names-exactly
 
 -- 4. Degree. Where the coefficient at a set of s or more variables is not zero, no s functions, the j-th independent of share j, sum to the table.
-pub degree-limit : (n s : ℕ) (f : ℕ → ℕ) (F : ℕ → List ℕ → ℕ) → 1 ≤ s → ((j : ℕ) → j < s → Ignores n s j (F j))
+pub degree-limit : (n s : ℕ) (f : ℕ → ℕ) (F : ℕ → List ℕ → ℕ) → 1 ≤ s → ((j : ℕ) → j < s → IgnoresPoint n s j (F j))
     → ((xs : List ℕ) → Points n s xs → xorBelow s (λ j. F j xs) ≡ f (xorBelow s (λ j. getD xs j 0)))
     → (u : ℕ) → u < 2 ^ n → s ≤ ones u → subsetSum n f u ≢ 0 → ⊥
 degree-limit = shares-bound

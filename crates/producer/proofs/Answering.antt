@@ -9,22 +9,24 @@ use lib.Dec.{eqb, ltb, leb}
 use lib.ListN.{length, getD, take, drop}
 use lib.Seq.{take-at, getD-take}
 use borrow.Author.Tests.{eq-eqb, ne-eqb, lt-ltb, le-ltb, le-leb, lt-leb}
-use Rattle.anf.specs.Tests.{pick, tabulate}
+use Rattle.finite.specs.Tests.{pick, tabulate}
+use Rattle.finite.specs.Sets.{has}
+use Rattle.finite.specs.Maps.{repeats}
+use Rattle.finite.proofs.Testing.{pick-true, pick-false, any-congr, tabulate-congr, tabulate-length, tabulate-at}
 use Rattle.anf.specs.NormalForm.{subsetSum, degree}
-use Rattle.anf.specs.Tables.{entriesBelow, repeats, wordsDegree}
+use Rattle.anf.specs.Tables.{entriesBelow, entry}
+use Rattle.anf.specs.inside.Words.{wordsDegree}
 use Rattle.anf.specs.Transform.{transformAfter, transformed}
-use Rattle.anf.proofs.Testing.{pick-true, pick-false, any-congr, tabulate-congr, tabulate-length, tabulate-at}
 use Rattle.anf.proofs.Passing.{passing-congr}
-use Rattle.anf.proofs.Answers.{accepted-answer, transformed-degree}
+use Rattle.anf.proofs.Answers.{passes-answer, transformed-degree}
 use Rattle.design.specs.Limits.{greatestTerms, broken}
-use Rattle.design.specs.Design.{entry}
 use Rattle.design.specs.Bytes.{overwrite}
 use Rattle.design.specs.Layout.{checked}
 use Rattle.design.specs.declared.Head.{Head}
 use Rattle.design.specs.declared.Checked.the-variants.{Good, Beyond}
 use Rattle.design.proofs.Limits.{bounds}
 use Rattle.design.proofs.Overwriting.{overwrite-front}
-use Rattle.producer.specs.Direct.{has, isProduct, chosen, componentFor, stands, directList, directLists, directStage, directSharing}
+use Rattle.producer.specs.Direct.{isProduct, chosen, componentFor, stands, directList, directLists, directStage, directSharing}
 use Rattle.producer.specs.Producing.{produced, producedReason, producing, outputAfter}
 use Rattle.producer.specs.Expanding.{Permutes, Ready, Follows, Gathers, oneStageFile, listRecords, ruleTables, refused}
 use Rattle.producer.specs.declared.Produced.{Produced}
@@ -70,7 +72,7 @@ module _ (m s : ℕ) (t : List ℕ) (room : ℕ) where
 
     module _ (z : length t ≡ 2 ^ m) where
       past-size : producedReason m s t room
-          ≡ pick (not (entriesBelow t (2 ^ m))) 5 (pick (repeats (2 ^ m) t) 8 (pick (leb s (degree m (entry t))) 16 (pick (ltb room (length (produced m s t))) 17 0)))
+          ≡ pick (not (entriesBelow t (2 ^ m))) 5 (pick (repeats (2 ^ m) (entry t)) 8 (pick (leb s (degree m (entry t))) 16 (pick (ltb room (length (produced m s t))) 17 0)))
       unfolding producedReason
       past-size = pick-false (broken m s 1) 4 _ b ∙ pick-false (not (eqb (length t) (2 ^ m))) 3 _ (ap not (eq-eqb _ _ z))
 
@@ -78,16 +80,16 @@ module _ (m s : ℕ) (t : List ℕ) (room : ℕ) where
       reason-entry e = past-size ∙ pick-true (not (entriesBelow t (2 ^ m))) 5 _ (ap not e)
 
       module _ (e : entriesBelow t (2 ^ m) ≡ true) where
-        pub reason-repeat : repeats (2 ^ m) t ≡ true → producedReason m s t room ≡ 8
-        reason-repeat r = past-size ∙ pick-false (not (entriesBelow t (2 ^ m))) 5 _ (ap not e) ∙ pick-true (repeats (2 ^ m) t) 8 _ r
+        pub reason-repeat : repeats (2 ^ m) (entry t) ≡ true → producedReason m s t room ≡ 8
+        reason-repeat r = past-size ∙ pick-false (not (entriesBelow t (2 ^ m))) 5 _ (ap not e) ∙ pick-true (repeats (2 ^ m) (entry t)) 8 _ r
 
-        module _ (r : repeats (2 ^ m) t ≡ false) where
+        module _ (r : repeats (2 ^ m) (entry t) ≡ false) where
           pub permutes : Permutes m s t room
           permutes = record {
             limits = b;
             size = z;
             below = e;
-            passed = past-size ∙ pick-false (not (entriesBelow t (2 ^ m))) 5 _ (ap not e) ∙ pick-false (repeats (2 ^ m) t) 8 _ r;
+            passed = past-size ∙ pick-false (not (entriesBelow t (2 ^ m))) 5 _ (ap not e) ∙ pick-false (repeats (2 ^ m) (entry t)) 8 _ r;
           }
 
   module _ (p : Permutes m s t room) where
@@ -118,7 +120,7 @@ head-beyond m s e = go (broken m s 1) e
 module _ (m s : ℕ) (t out : List ℕ) (b : broken m s 1 ≡ false) (z : length t ≡ 2 ^ m) (e : entriesBelow t (2 ^ m) ≡ true) (room : 2 ^ m ≤ length out) where
   words-are : transformAfter m t out ≡ transformed m t ++ drop (2 ^ m) out
   words-are =
-      accepted-answer m t out (record { least = bounds m s 1 b .m-low; most = bounds m s 1 b .m-high; size = z; below = e; room-enough = room }) .1
+      passes-answer m t out (record { least = bounds m s 1 b .m-low; most = bounds m s 1 b .m-high; size = z; below = e; room-enough = room }) .1
 
   words-first : take (2 ^ m) (transformAfter m t out) ≡ transformed m t
   words-first = ap (take (2 ^ m)) words-are ∙ take-at (transformed m t) (drop (2 ^ m) out) (2 ^ m) (tabulate-length (2 ^ m) (subsetSum m (λ v. getD t v 0)))

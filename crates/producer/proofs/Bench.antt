@@ -6,22 +6,24 @@ use mathlib.Core.List.{[], _∷_, map}
 use lib.Dec.{eqb}
 use lib.Count.{ones}
 use lib.ListN.{length}
-use Rattle.anf.specs.Tests.{all, any, first, total, tabulate}
-use Rattle.anf.specs.Sums.{xorBelow}
-use Rattle.anf.specs.NormalForm.{subset, subsetSum, largest, degree}
+use Rattle.finite.specs.Tests.{all, any, first, total, tabulate}
+use Rattle.finite.specs.Sums.{xorBelow}
+use Rattle.finite.specs.Sets.{subset, has}
+use Rattle.finite.specs.Maps.{repeats, metBefore}
+use Rattle.anf.specs.NormalForm.{subsetSum, largest, degree}
 use Rattle.anf.specs.Terms.{passing}
-use Rattle.anf.specs.Tables.{entriesBelow, repeats}
+use Rattle.anf.specs.Tables.{entriesBelow}
 use Rattle.design.specs.Limits.{broken}
 use Rattle.design.specs.Bytes.{termBytes}
 use Rattle.design.specs.Encode.{join, aRecord, stageBytes, encode}
 use Rattle.threshold.specs.Sharing.{share}
-use Rattle.producer.specs.Direct.{has, isProduct, chosen, componentFor, stands, directList, directLists, directStage, directSharing}
+use Rattle.producer.specs.Direct.{isProduct, chosen, componentFor, stands, directList, directLists, directStage, directSharing}
 use Rattle.producer.specs.Producing.{produced, producedReason, producing, outputAfter}
 use Rattle.producer.specs.Bench.{rows}
 
 -- the definitions that computing opens
 unfoldable pub computing : ℕ
-unfolding all any first total tabulate xorBelow subset subsetSum largest degree passing entriesBelow repeats broken termBytes join aRecord stageBytes encode share has isProduct chosen componentFor stands directList directLists directStage directSharing produced producedReason producing outputAfter ones
+unfolding all any first total tabulate xorBelow subset subsetSum largest degree passing entriesBelow repeats metBefore broken termBytes join aRecord stageBytes encode share has isProduct chosen componentFor stands directList directLists directStage directSharing produced producedReason producing outputAfter ones
 computing = 0
 
 pub bench-answers : map (λ r. producing (r .m) (r .s) (r .table) (length (r .output))) rows ≡ map (λ r. r .answer) rows

@@ -1,73 +1,26 @@
 -- One variable more, and a share chosen for it: the products of the variables below v + 1 on top of p are those of the variables below v on top of p with
 -- one share's bit of v, share by share, and no two shares give the same.
-use mathlib.Core.Path.{_≡_, refl, sym, ap, ap₂, _∙_}
-use mathlib.Core.Logic.{_≢_}
-use mathlib.Core.Bool.{Bool, true, false, not, _||_}
-use Prim.Native.Nat.{ℕ, suc, _+_, _-_, _*_, _/_, _%_, _^_, _≤_, _<_}
-use native.Mathlib.Nat.{mod-lt, div-add-mod', div-lt-iff-lt-mul, mul-comm, div-eq-of-lt}
+use mathlib.Core.Path.{_≡_, sym, ap, ap₂, _∙_}
+use mathlib.Core.Bool.{Bool, true, false, not}
+use Prim.Native.Nat.{ℕ, suc, _+_, _*_, _/_, _%_, _^_, _≤_, _<_}
+use native.Mathlib.Nat.{mod-lt, div-add-mod', div-lt-iff-lt-mul, mul-comm}
 use native.Mathlib.Decide.{decLt, ℕ-discrete}
 use native.Mathlib.Omega.{arith}
 use lib.Arith.{digits-div, digits-mod}
-use lib.Pow.{pow-pos, pow-lt, pow-add, shl-shr, high}
+use lib.Pow.{pow-pos, pow-lt}
 use lib.Dec.{eqb, ltb}
-use lib.Bits.{bitOr, or-shr, or-mod, or-lt}
+use lib.Bits.{bitOr, or-lt}
 use borrow.Author.Tests.{eqb-true, eqb-false, eq-eqb, ne-eqb, not-true, lt-ltb, le-ltb}
-use Rattle.anf.specs.Tests.{pick, bit, all, any, count}
-use Rattle.anf.proofs.Testing.{bool-ext, not-true-false, clash, all-at, all-intro, any-at, any-some, any-congr, none-any, pick-true, pick-false, or-right}
-use Rattle.anf.proofs.Counting.{count-one, count-some, count-unique, count-none, count-has}
-use Rattle.anf.proofs.Xor.{bit-cases}
+use Rattle.finite.specs.Tests.{pick, bit, all, any, count}
+use Rattle.finite.specs.Sets.{has}
+use Rattle.finite.proofs.Testing.{bool-ext, not-true-false, clash, all-at, all-intro, any-at, any-some, any-congr, none-any, pick-true, pick-false}
+use Rattle.finite.proofs.Counting.{count-one, count-some, count-unique, count-none, count-has}
+use Rattle.finite.proofs.Elements.{has-none, sets-eq, some-element, has-with, has-with-other}
 use Rattle.threshold.specs.Sharing.{share}
-use Rattle.producer.specs.Direct.{has, isProduct, chosen}
-use Rattle.producer.proofs.Elements.{has-none, sets-eq, some-element, share-lt, share-has, place-lt}
+use Rattle.threshold.proofs.Sharing.{share-lt, share-has, place-lt}
+use Rattle.producer.specs.Direct.{isProduct, chosen}
 use Rattle.producer.proofs.Products.{product-at, at-product}
 use Rattle.producer.proofs.Placement.{chosen-lt, chosen-has}
-
--- ---- one element more
-
-or-bit : (a b i : ℕ) → bitOr a b / 2 ^ i % 2 ≡ bitOr (a / 2 ^ i % 2) (b / 2 ^ i % 2)
-or-bit a b i = ap (λ (x : ℕ). x % 2) (or-shr a b i) ∙ or-mod (a / 2 ^ i) (b / 2 ^ i) 1
-
-pub has-or : (a b i : ℕ) → has (bitOr a b) i ≡ (has a i || has b i)
-unfolding has
-has-or a b i =
-    ap (λ (r : ℕ). eqb r 1) (or-bit a b i)
-    ∙ bit-cases (λ x. eqb (bitOr x (b / 2 ^ i % 2)) 1 ≡ (eqb x 1 || eqb (b / 2 ^ i % 2) 1))
-    (bit-cases (λ y. eqb (bitOr 0 y) 1 ≡ eqb y 1) refl refl (b / 2 ^ i))
-    (bit-cases (λ y. eqb (bitOr 1 y) 1 ≡ true) refl refl (b / 2 ^ i))
-    (a / 2 ^ i)
-
-pub has-power : (k : ℕ) → has (2 ^ k) k ≡ true
-unfolding has
-has-power k =
-    let e : 2 ^ k ≡ 1 * 2 ^ k + 0 = omega arith in
-    ap (λ (x : ℕ). eqb (x / 2 ^ k % 2) 1) e ∙ ap (λ (x : ℕ). eqb (x % 2) 1) (high 1 k (pow-pos k))
-
-pub has-power-other : (k i : ℕ) → i ≢ k → has (2 ^ k) i ≡ false
-unfolding has
-has-power-other k i n = go (decLt k i)
-  where
-    go : Dec (k < i) → eqb (2 ^ k / 2 ^ i % 2) 1 ≡ false
-    go (yes l) = ap (λ (x : ℕ). eqb (x % 2) 1) (div-eq-of-lt (pow-lt l))
-    go (no l) =
-        let d : k ≡ suc (k - suc i) + i = omega arith in
-        ap (λ (x : ℕ). eqb (2 ^ x / 2 ^ i % 2) 1) d
-        ∙ ap (λ (x : ℕ). eqb (x / 2 ^ i % 2) 1) (pow-add 2 (suc (k - suc i)) i)
-        ∙ ap (λ (x : ℕ). eqb (x % 2) 1) (shl-shr (2 ^ suc (k - suc i)) i)
-        ∙ ap (λ (x : ℕ). eqb x 1) (even (k - suc i))
-      where
-        even : (e : ℕ) → 2 ^ suc e % 2 ≡ 0
-        even e = omega arith
-
-module _ (p k : ℕ) where
-  pub with-same : has (bitOr p (2 ^ k)) k ≡ true
-  with-same = has-or p (2 ^ k) k ∙ or-right (has p k) (has (2 ^ k) k) (has-power k)
-
-  pub with-other : (i : ℕ) → i ≢ k → has (bitOr p (2 ^ k)) i ≡ has p i
-  with-other i n = has-or p (2 ^ k) i ∙ ap (λ (b : Bool). has p i || b) (has-power-other k i n) ∙ or-none (has p i)
-    where
-      or-none : (b : Bool) → (b || false) ≡ b
-      or-none true = refl
-      or-none false = refl
 
 -- a place tells the share and the variable
 pub place-eq : (m i w j v : ℕ) → w < m → v < m → i * m + w ≡ j * m + v → (i ≡ j) × (w ≡ v)
@@ -101,11 +54,11 @@ chosen-with m s p j v lj lv =
   where
     at : (i : ℕ) → i < s → Dec (i ≡ j) → any m (λ w. has (bitOr p (2 ^ (j * m + v))) (i * m + w)) ≡ has (bitOr (chosen m s p) (2 ^ j)) i
     at i l (yes e) =
-        any-at m _ v lv (ap (λ (k : ℕ). has (bitOr p (2 ^ (j * m + v))) (k * m + v)) e ∙ with-same p (j * m + v))
-        ∙ sym (ap (has (bitOr (chosen m s p) (2 ^ j))) e ∙ with-same (chosen m s p) j)
+        any-at m _ v lv (ap (λ (k : ℕ). has (bitOr p (2 ^ (j * m + v))) (k * m + v)) e ∙ has-with p (j * m + v))
+        ∙ sym (ap (has (bitOr (chosen m s p) (2 ^ j))) e ∙ has-with (chosen m s p) j)
     at i l (no n) =
-        any-congr m _ _ (λ w k. with-other p (j * m + v) (i * m + w) (λ e. n (place-eq m i w j v k lv e .0)))
-        ∙ sym (with-other (chosen m s p) j i n ∙ chosen-any m s p i l)
+        any-congr m _ _ (λ w k. has-with-other p (j * m + v) (i * m + w) (λ e. n (place-eq m i w j v k lv e .0)))
+        ∙ sym (has-with-other (chosen m s p) j i n ∙ chosen-any m s p i l)
 
 -- ---- the products of the variables of u below v on top of p
 
@@ -202,10 +155,10 @@ module _ (m s u v p : ℕ) (lv : v < m) (clean : Clean m s (suc v) p) where
       go (yes d) = d
       go (no d) =
           absurd (clash t (extends-kept m s u v (withShareOf j) q e v lv (omega arith) i li
-          ∙ with-other p (j * m + v) (i * m + v) (λ z. d (place-eq m i v j v lv lv z .0)) ∙ clean v (omega arith) i li))
+          ∙ has-with-other p (j * m + v) (i * m + v) (λ z. d (place-eq m i v j v lv lv z .0)) ∙ clean v (omega arith) i li))
 
   has-share : (j q : ℕ) → j < s → extends m s u v (withShareOf j) q ≡ true → has q (j * m + v) ≡ true
-  has-share j q lj e = extends-kept m s u v (withShareOf j) q e v lv (omega arith) j lj ∙ with-same p (j * m + v)
+  has-share j q lj e = extends-kept m s u v (withShareOf j) q e v lv (omega arith) j lj ∙ has-with p (j * m + v)
 
   -- no two shares give the same
   pub extends-apart : (i j q : ℕ) → i < s → extends m s u v (withShareOf i) q ≡ true → extends m s u v (withShareOf j) q ≡ true → i ≡ j
@@ -230,14 +183,14 @@ module _ (m s u v p : ℕ) (lv : v < m) (clean : Clean m s (suc v) p) where
               → has q (j * m + w) ≡ has (withShareOf k) (j * m + w)
           kept k lk y w l h j lj (yes a) (yes b) =
               let d : j * m + w ≡ k * m + v = ap₂ (λ (x z : ℕ). x * m + z) b a in
-              ap (has q) d ∙ y ∙ sym (ap (has (withShareOf k)) d ∙ with-same p (k * m + v))
+              ap (has q) d ∙ y ∙ sym (ap (has (withShareOf k)) d ∙ has-with p (k * m + v))
           kept k lk y w l h j lj (yes a) (no b) =
               ap (λ (x : ℕ). has q (j * m + x)) a
               ∙ not-true-false (has q (j * m + v)) (λ z. b (count-unique s (λ i. has q (i * m + v)) (one e) j k lj lk z y))
-              ∙ sym (with-other p (k * m + v) (j * m + w) (λ z. b (place-eq m j w k v l lv z .0)) ∙ clean w (omega arith) j lj)
+              ∙ sym (has-with-other p (k * m + v) (j * m + w) (λ z. b (place-eq m j w k v l lv z .0)) ∙ clean w (omega arith) j lj)
           kept k lk y w l h j lj (no a) c =
               extends-kept m s u (suc v) p q e w l (omega arith) j lj
-              ∙ sym (with-other p (k * m + v) (j * m + w) (λ z. a (place-eq m j w k v l lv z .1)))
+              ∙ sym (has-with-other p (k * m + v) (j * m + w) (λ z. a (place-eq m j w k v l lv z .1)))
 
       from : any s (λ j. extends m s u v (withShareOf j) q) ≡ true → extends m s u (suc v) p q ≡ true
       from a =
@@ -245,7 +198,7 @@ module _ (m s u v p : ℕ) (lv : v < m) (clean : Clean m s (suc v) p) where
           extends-intro m s u (suc v) p q
           (λ w l h. taken (k .0) (k .1) (k .2) w l h (ℕ-discrete w v))
           (λ w l h j lj. extends-kept m s u v (withShareOf (k .0)) q (k .2) w l (omega arith) j lj
-          ∙ with-other p (k .0 * m + v) (j * m + w) (λ z. omega (arith, place-eq m j w (k .0) v l lv z .1)))
+          ∙ has-with-other p (k .0 * m + v) (j * m + w) (λ z. omega (arith, place-eq m j w (k .0) v l lv z .1)))
         where
           taken : (k : ℕ) → k < s → extends m s u v (withShareOf k) q ≡ true → (w : ℕ) → w < m → w < suc v → Dec (w ≡ v)
               → count s (λ j. has q (j * m + w)) ≡ bit (has u w)
@@ -258,7 +211,7 @@ module _ (m s u v p : ℕ) (lv : v < m) (clean : Clean m s (suc v) p) where
   -- the next p
   pub clean-with : (j : ℕ) → j < s → Clean m s v (withShareOf j)
   clean-with j lj w h i li =
-      with-other p (j * m + v) (i * m + w) (λ z. omega (arith, place-eq m i w j v (omega arith) lv z .1)) ∙ clean w (omega arith) i li
+      has-with-other p (j * m + v) (i * m + w) (λ z. omega (arith, place-eq m i w j v (omega arith) lv z .1)) ∙ clean w (omega arith) i li
 
   pub with-lt : (j : ℕ) → j < s → p < 2 ^ (m * s) → withShareOf j < 2 ^ (m * s)
   with-lt j lj l = or-lt (m * s) p (2 ^ (j * m + v)) l (pow-lt (place-lt m s j v lj lv))

@@ -1,67 +1,24 @@
 -- How many products there are: s^d for a term of d variables, and (s + 1)^m for all terms in m variables.
 use mathlib.Core.Path.{_≡_, refl, sym, ap, ap₂, _∙_}
 use mathlib.Core.Logic.{_⊎_, inl, inr}
-use mathlib.Core.Bool.{Bool, true, false, _&&_, _||_}
-use Prim.Native.Nat.{ℕ, zero, suc, _+_, _-_, _*_, _^_, _≤_, _<_}
-use native.Mathlib.Nat.{mul-comm, mul-add, add-comm, zero-mul, pow-zero, pow-suc, add-zero, add-suc, mul-zero, suc-mul}
+use mathlib.Core.Bool.{Bool, true, false, _&&_}
+use Prim.Native.Nat.{ℕ, zero, suc, _+_, _*_, _^_, _≤_, _<_}
+use native.Mathlib.Nat.{mul-comm, add-comm, pow-zero, pow-suc, add-zero, mul-zero, suc-mul}
 use native.Mathlib.Omega.{arith}
 use lib.Arith.{lt-one}
 use lib.Dec.{eqb}
 use lib.Bits.{bitXor, xor-lt}
-use lib.Count.{ones, ones-cat}
+use lib.Count.{ones}
 use borrow.Author.Tests.{eqb-true, eqb-false}
-use Rattle.anf.specs.Tests.{pick, bit, any, count, total}
-use Rattle.anf.specs.NormalForm.{subset}
-use Rattle.anf.proofs.Testing.{true-or-false, any-some}
-use Rattle.anf.proofs.Counting.{total-congr, total-zero, total-add, total-mono, count-has}
-use Rattle.anf.proofs.Subsets.{Top, low, top, top-cases, xor-top-low, subset-low-top, subset-top-top, subset-top-low, subset-self}
-use Rattle.producer.specs.Direct.{has, isProduct}
-use Rattle.producer.proofs.Elements.{ones-count, some-element}
+use Rattle.finite.specs.Tests.{pick, bit, any, count, total}
+use Rattle.finite.specs.Sets.{subset, has}
+use Rattle.finite.proofs.Testing.{true-or-false, any-some}
+use Rattle.finite.proofs.Counting.{total-congr, total-zero, count-has, total-double, total-times, total-blocks, count-any}
+use Rattle.finite.proofs.Subsets.{Top, low, top, top-cases, xor-top-low, subset-low-top, subset-top-top, subset-top-low, subset-self, xor-top-top}
+use Rattle.finite.proofs.Elements.{ones-count, some-element, ones-top}
+use Rattle.producer.specs.Direct.{isProduct}
 use Rattle.producer.proofs.Products.{product-none}
-use Rattle.producer.proofs.Expansion.{product-blocks, pow-blocks, xor-top-top}
-
--- ---- totals
-
-pub total-range : (n k : ℕ) (f : ℕ → ℕ) → total (n + k) f ≡ total n f + total k (λ i. f (n + i))
-unfolding total
-total-range n zero f = rw (add-zero n) (omega arith)
-total-range n (suc k) f = rw (add-suc n k) (omega (arith, total-range n k f))
-
-pub total-double : (n : ℕ) (f : ℕ → ℕ) → total (2 ^ suc n) f ≡ total (2 ^ n) f + total (2 ^ n) (λ i. f (2 ^ n + i))
-total-double n f = let e : 2 ^ suc n ≡ 2 ^ n + 2 ^ n = omega arith in rw e (total-range (2 ^ n) (2 ^ n) f)
-
-pub total-blocks : (a b : ℕ) (f : ℕ → ℕ) → total (a * b) f ≡ total a (λ i. total b (λ j. f (i * b + j)))
-unfolding total
-total-blocks zero b f = rw (zero-mul b) refl
-total-blocks (suc a) b f =
-    ap (λ (x : ℕ). total x f) (suc-mul a b) ∙ total-range (a * b) b f
-    ∙ ap (λ (x : ℕ). x + total b (λ j. f (a * b + j))) (total-blocks a b f) ∙ add-comm _ _
-
-pub total-swap : (n k : ℕ) (f : ℕ → ℕ → ℕ) → total n (λ i. total k (f i)) ≡ total k (λ j. total n (λ i. f i j))
-unfolding total
-total-swap zero k f = sym (total-zero k (λ j. 0) (λ j l. refl))
-total-swap (suc n) k f = ap (λ (x : ℕ). total k (f n) + x) (total-swap n k f) ∙ sym (total-add k (f n) (λ j. total n (λ i. f i j)))
-
-pub total-times : (n c : ℕ) (f : ℕ → ℕ) → total n (λ i. c * f i) ≡ c * total n f
-unfolding total
-total-times zero c f = sym (mul-zero c)
-total-times (suc n) c f = ap (λ (x : ℕ). c * f n + x) (total-times n c f) ∙ sym (mul-add c (f n) (total n f))
-
--- what passes one of several tests, counted test by test
-pub count-any : (n k : ℕ) (q : ℕ → ℕ → Bool) → count n (λ p. any k (λ u. q u p)) ≤ total k (λ u. count n (q u))
-unfolding any total
-count-any n zero q = omega (arith, total-zero n (λ i. 0) (λ i l. refl))
-count-any n (suc k) q =
-    omega (
-      arith,
-      count-any n k q,
-      total-mono n (λ p. bit (any k (λ u. q u p) || q k p)) (λ p. bit (any k (λ u. q u p)) + bit (q k p)) (λ p l. or-le (any k (λ u. q u p)) (q k p)),
-      total-add n (λ p. bit (any k (λ u. q u p))) (λ p. bit (q k p)),
-    )
-  where
-    or-le : (a b : Bool) → bit (a || b) ≤ bit a + bit b
-    or-le true b = omega arith
-    or-le false b = omega arith
+use Rattle.producer.proofs.Expansion.{product-blocks, pow-blocks}
 
 -- ---- the subsets of u
 
@@ -92,10 +49,6 @@ subsetTotal-times n u c g =
     at : (b : Bool) (x : ℕ) → pick b (c * x) 0 ≡ c * pick b x 0
     at true x = refl
     at false x = sym (mul-zero c)
-
-ones-top : (n i : ℕ) → i < 2 ^ n → ones (2 ^ n + i) ≡ suc (ones i)
-unfolding ones
-ones-top n i h = let e : 2 ^ n + i ≡ 1 * 2 ^ n + i = omega arith in ap ones e ∙ ones-cat n 1 i h ∙ omega arith
 
 split-count : (n s u : ℕ) → u < 2 ^ n → subsetTotal n (λ t. s ^ ones (bitXor u t)) u ≡ suc s ^ ones u
 unfolding total

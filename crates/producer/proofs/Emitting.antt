@@ -10,13 +10,13 @@ use lib.Bits.{bitOr, or-lt}
 use lib.Pow.{pow-lt}
 use lib.ListN.{length, getD, length-append}
 use borrow.Author.Tests.{eq-eqb, ne-eqb}
-use Rattle.anf.specs.Tests.{pick}
-use Rattle.anf.proofs.Testing.{below, pick-true, pick-false}
+use Rattle.finite.specs.Tests.{pick}
+use Rattle.finite.specs.Sets.{has}
+use Rattle.finite.proofs.Testing.{below, pick-true, pick-false}
 use Rattle.design.specs.Limits.{greatestShareBits}
 use Rattle.design.proofs.Limits.{bounds}
-use Rattle.producer.specs.Direct.{has}
+use Rattle.threshold.proofs.Sharing.{place-lt}
 use Rattle.producer.specs.Expanding.{joined, ending, emitted, inserted, insertedAll, Expands}
-use Rattle.producer.proofs.Elements.{place-lt}
 
 -- ---- joined lists
 

@@ -1,25 +1,26 @@
 -- The sum of the products of a term at a sharing is the term at the value shared: for each variable a share is chosen, so the products are
 -- those of the sums of shares multiplied out. A term of d variables has s^d products.
 use mathlib.Core.Path.{_≡_, refl, sym, ap, ap₂, _∙_}
-use mathlib.Core.Bool.{Bool, true, false, not, _&&_}
-use Prim.Native.Nat.{ℕ, zero, suc, _+_, _-_, _*_, _/_, _%_, _^_, _<_}
-use native.Mathlib.Nat.{mul-suc, add-comm, zero-mul, mod-lt, mod-eq-of-lt, mul-zero, suc-mul}
+use mathlib.Core.Bool.{Bool, true, false, _&&_}
+use Prim.Native.Nat.{ℕ, zero, suc, _+_, _*_, _/_, _%_, _^_, _<_}
+use native.Mathlib.Nat.{mul-suc, add-comm, mod-lt, mod-eq-of-lt, mul-zero}
 use native.Mathlib.Omega.{arith}
 use lib.Arith.{lt-one}
 use lib.Pow.{pow-add, high}
 use lib.Dec.{eqb}
 use lib.Bits.{bitXor, xor-shr, xor-mod, xor-self, and-zero-r, xor-lt, xor-zero-r}
 use borrow.Author.Tests.{eqb-true, eq-eqb}
-use Rattle.anf.specs.Tests.{pick, bit}
-use Rattle.anf.specs.Sums.{xorBelow}
-use Rattle.anf.specs.NormalForm.{subset, subsetSum}
-use Rattle.anf.proofs.Testing.{bool-ext}
-use Rattle.anf.proofs.Sums.{xorBelow-ext, xorBelow-none, xorBelow-add}
-use Rattle.anf.proofs.Subsets.{Top, low, top, top-cases, xor-top-low, subset-eq, eq-subset, subset-empty}
+use Rattle.finite.specs.Tests.{pick}
+use Rattle.finite.specs.Sums.{xorBelow}
+use Rattle.finite.specs.Sets.{subset}
+use Rattle.finite.proofs.Testing.{bool-ext}
+use Rattle.finite.proofs.Sums.{xorBelow-ext, pick-both, xorBelow-blocks, pick-swap, xorBelow-pick}
+use Rattle.finite.proofs.Subsets.{Top, low, top, top-cases, xor-top-low, subset-eq, eq-subset, subset-empty, xor-top-top}
+use Rattle.finite.proofs.Elements.{subset-low, subset-split}
+use Rattle.anf.specs.NormalForm.{subsetSum}
 use Rattle.anf.proofs.Transform.{subsetSum-ext, subsetSum-none, subsetSum-low, subsetSum-top, subsetSum-zero}
 use Rattle.threshold.specs.Sharing.{share, sum}
-use Rattle.producer.specs.Direct.{has, isProduct}
-use Rattle.producer.proofs.Elements.{subset-low, subset-split}
+use Rattle.producer.specs.Direct.{isProduct}
 use Rattle.producer.proofs.Products.{product-more, product-low, product-none}
 
 -- ---- a subset of u from one share, the others from the rest: the term u at a sum of two
@@ -28,27 +29,12 @@ subsetSum-pick : (n u : ℕ) (c : Bool) (f : ℕ → ℕ) → subsetSum n (λ t.
 subsetSum-pick n u true f = refl
 subsetSum-pick n u false f = subsetSum-none n u (λ t. 0) (λ v l. refl)
 
-pick-both : (a b : Bool) (x : ℕ) → pick (a && b) x 0 ≡ pick a (pick b x 0) 0
-pick-both true b x = refl
-pick-both false b x = refl
-
-pub pick-swap : (a b : Bool) (x : ℕ) → pick a (pick b x 0) 0 ≡ pick b (pick a x 0) 0
-pick-swap true true x = refl
-pick-swap true false x = refl
-pick-swap false true x = refl
-pick-swap false false x = refl
-
 -- t at a, and what of u is not in t at b
 abbrev both : ℕ → ℕ → ℕ → ℕ → ℕ
 both u a b t = pick (subset t a) (pick (subset (bitXor u t) b) 1 0) 0
 
 subset-top : (n i x : ℕ) → i < 2 ^ n → subset (2 ^ n + i) x ≡ (subset 1 (x / 2 ^ n) && subset i x)
 subset-top n i x l = let e : 2 ^ n + i ≡ 1 * 2 ^ n + i = omega arith in ap (λ (y : ℕ). subset y x) e ∙ subset-split n 1 i x l
-
-pub xor-top-top : (n i j : ℕ) → i < 2 ^ n → j < 2 ^ n → bitXor (2 ^ n + i) (2 ^ n + j) ≡ bitXor i j
-xor-top-top n i j li lj =
-    let one : (k : ℕ) → 2 ^ n + k ≡ 1 * 2 ^ n + k = omega arith in
-    ap₂ bitXor (one i) (one j) ∙ lib.Bits.xor-block n 1 1 i j li lj ∙ omega arith
 
 subset-one : (x : ℕ) → subset 1 x ≡ subset 1 (x % 2)
 subset-one x = sym (subset-low 1 1 x (omega arith))
@@ -96,13 +82,6 @@ split-sum (suc n) u a b l = go (split-sum n) (top-cases n u l)
 
 -- ---- the sum over all numbers, block by block
 
-pub xorBelow-blocks : (a b : ℕ) (f : ℕ → ℕ) → xorBelow (a * b) f ≡ xorBelow a (λ i. xorBelow b (λ j. f (i * b + j)))
-unfolding xorBelow
-xorBelow-blocks zero b f = rw (zero-mul b) refl
-xorBelow-blocks (suc a) b f =
-    ap (λ (x : ℕ). xorBelow x f) (suc-mul a b) ∙ xorBelow-add (a * b) b f
-    ∙ ap (λ (x : ℕ). bitXor x (xorBelow b (λ j. f (a * b + j)))) (xorBelow-blocks a b f)
-
 pub pow-blocks : (m s : ℕ) → 2 ^ (m * suc s) ≡ 2 ^ m * 2 ^ (m * s)
 pow-blocks m s = ap (λ (x : ℕ). 2 ^ x) (mul-suc m s ∙ add-comm (m * s) m) ∙ pow-add 2 m (m * s)
 
@@ -117,10 +96,6 @@ product-blocks m s u t r lt lr =
     product-more m s u (t * 2 ^ (m * s) + r)
     ∙ ap (λ (x : ℕ). subset x u && isProduct m s (bitXor u x) (t * 2 ^ (m * s) + r)) (share-top m s t r lt lr)
     ∙ ap (λ (x : Bool). subset t u && x) (product-low m s (bitXor u t) t r lr)
-
-pub xorBelow-pick : (n : ℕ) (c : Bool) (f : ℕ → ℕ) → xorBelow n (λ t. pick c (f t) 0) ≡ pick c (xorBelow n f) 0
-xorBelow-pick n true f = refl
-xorBelow-pick n false f = xorBelow-none n (λ t. 0) (λ v l. refl)
 
 -- ---- the sum of the products of u at σ
 

@@ -2,21 +2,23 @@
 use mathlib.Core.Path.{_≡_, refl, sym, ap, _∙_, subst}
 use mathlib.Core.Bool.{true, false, not, _&&_}
 use mathlib.Core.List.{List, [], _∷_}
-use Prim.Native.Nat.{ℕ, suc, _+_, _*_, _/_, _%_, _^_, _≤_, _<_}
+use Prim.Native.Nat.{ℕ, suc, _*_, _/_, _%_, _^_, _≤_, _<_}
 use native.Mathlib.Nat.{mod-lt, div-add-mod', div-lt-iff-lt-mul, mul-comm}
 use native.Mathlib.Omega.{arith}
 use lib.Dec.{leb}
 use lib.ListN.{length, getD}
 use borrow.Author.Tests.{leb-true}
-use Rattle.anf.specs.Tests.{implies, all, any, count}
+use Rattle.finite.specs.Tests.{implies, all, any, count}
+use Rattle.finite.specs.Sets.{has}
+use Rattle.finite.proofs.Testing.{all-at, implies-at, and-left, any-some, any-at}
+use Rattle.finite.proofs.Counting.{count-mono}
 use Rattle.anf.specs.NormalForm.{subsetSum}
-use Rattle.anf.proofs.Testing.{all-at, implies-at, and-left, any-some, any-at}
-use Rattle.anf.proofs.Counting.{count-mono}
+use Rattle.anf.specs.Tables.{entry}
 use Rattle.anf.proofs.Passing.{passing-terms, passing-length}
 use Rattle.design.specs.Limits.{greatestTerms, broken}
-use Rattle.design.specs.Design.{entry, TableFits, ListFits, StageFits, WellFormed}
+use Rattle.design.specs.Design.{TableFits, ListFits, StageFits, WellFormed}
 use Rattle.design.proofs.Limits.{bounds}
-use Rattle.producer.specs.Direct.{has, isProduct, stands, directList, directStage, directSharing}
+use Rattle.producer.specs.Direct.{isProduct, stands, directList, directStage, directSharing}
 use Rattle.producer.proofs.Counts.{products-most}
 use Rattle.producer.proofs.Stage.{list-at, lists-length}
 

@@ -12,16 +12,17 @@ use lib.Dec.{eqb, leb}
 use lib.Bits.{bitOr}
 use lib.ListN.{length, getD, take, drop}
 use borrow.Author.Tests.{eqb-true, eq-eqb, ne-eqb, lt-ltb, le-ltb, le-leb}
-use Rattle.anf.specs.Tests.{pick, implies, all, any, first, tabulate}
+use Rattle.finite.specs.Tests.{pick, implies, all, any, first, tabulate}
+use Rattle.finite.specs.Sets.{has}
+use Rattle.finite.proofs.Testing.{true-or-false, not-true-false, clash, below, pick-true, pick-false, and-intro, and-left, and-right, or-none, any-at, any-some, all-at, implies-at}
+use Rattle.finite.proofs.Elements.{has-none}
 use Rattle.anf.specs.Terms.{before, passing}
-use Rattle.anf.proofs.Testing.{true-or-false, not-true-false, clash, below, pick-true, pick-false, and-intro, and-left, and-right, or-none, any-at, any-some, all-at, implies-at}
 use Rattle.anf.proofs.Terms.{Rising}
 use Rattle.anf.proofs.Passing.{passing-rising, passing-congr}
 use Rattle.design.specs.Limits.{greatestTerms}
 use Rattle.design.proofs.Limits.{bounds}
-use Rattle.producer.specs.Direct.{has, isProduct, chosen, componentFor, stands, directList}
+use Rattle.producer.specs.Direct.{isProduct, chosen, componentFor, stands, directList}
 use Rattle.producer.specs.Expanding.{joined, ending, emitted, inserted, insertedAll, brought, ruleTables, Follows, Expands, Gathers}
-use Rattle.producer.proofs.Elements.{has-none}
 use Rattle.producer.proofs.Products.{product-term}
 use Rattle.producer.proofs.Placement.{chosen-lt}
 use Rattle.producer.proofs.Formed.{list-size}

@@ -1,12 +1,12 @@
 -- A term goes into its place by being compared with one term after another: what is left to do from here gives what the whole gives.
 use mathlib.Core.Path.{_≡_, sym, ap, ap₂, _∙_}
 use mathlib.Core.List.{List, [], _∷_, _++_, append-assoc}
-use Prim.Native.Nat.{ℕ, suc, _+_, _-_, _≤_, _<_}
+use Prim.Native.Nat.{ℕ, suc, _+_, _≤_, _<_}
 use native.Mathlib.Numerals.{add-one}
 use native.Mathlib.Omega.{arith}
 use lib.ListN.{length, getD, set, take, drop, length-take}
 use lib.Seq.{take-suc-set, drop-cons, drop-set-lt, take-set-lt, getD-take, drop-length}
-use Rattle.anf.specs.Tests.{pick}
+use Rattle.finite.specs.Tests.{pick}
 use Rattle.anf.specs.Terms.{before}
 use Rattle.producer.specs.Expanding.{inserted}
 

@@ -8,14 +8,13 @@ use native.Mathlib.Omega.{arith}
 use lib.Pow.{pow-mono}
 use lib.ListN.{length, getD, take, drop, length-take}
 use borrow.Author.Tests.{not-true, not-false}
-use Rattle.anf.specs.Tables.{entriesBelow, repeats, wordsDegree}
+use Rattle.finite.specs.Maps.{repeats}
+use Rattle.anf.specs.Tables.{entriesBelow, entry}
+use Rattle.anf.specs.inside.Words.{wordsDegree}
 use Rattle.anf.specs.Transform.{transformAfter}
 use Rattle.anf.specs.NormalForm.{degree}
-use mir.Syntax.{w64}
-use mir.Val.{Fits}
 use Rattle.design.specs.Limits.{greatestTerms, broken}
 use Rattle.design.specs.Bytes.{overwrite}
-use Rattle.design.specs.Design.{entry}
 use Rattle.design.specs.Layout.{checked}
 use Rattle.design.specs.declared.Head.{Head}
 use Rattle.design.specs.declared.Checked.{Checked}
@@ -26,8 +25,9 @@ use Rattle.producer.specs.Producing.{produced}
 use Rattle.producer.specs.Expanding.{Gathers, Permutes, Ready, ruleTables, listRecords, oneStageFile, refused}
 use Rattle.producer.specs.declared.Produced.{Produced}
 use Rattle.producer.proofs.Writing.{file-length}
-use Rattle.producer.proofs.Answering.{Answered, refusal-answer, success-answer, head-good, head-beyond, reason-beyond, reason-size, reason-entry, reason-repeat, permutes, reason-degree}
-use Rattle.producer.proofs.Answering.{found-degree, found-ready, file-is, file-size, ready-gathers, short, enough, rules-length, sets-least, sets-most, rule-part}
+use Rattle.producer.proofs.Answering.{Answered, refusal-answer, success-answer, head-good, head-beyond, reason-beyond, reason-size, reason-entry, reason-repeat, permutes, reason-degree, found-degree, found-ready, file-is, file-size, ready-gathers, short, enough, rules-length, sets-least, sets-most, rule-part}
+use mir.Syntax.{w64}
+use mir.Val.{Fits}
 
 -- ---- `produce`
 
@@ -51,12 +51,12 @@ module _ (m s : ℕ) (t : List ℕ) (limits : broken m s 1 ≡ false) (n : ℕ) 
     entry-beyond h out r er =
         refusal-answer m s t out r 5 er (omega arith) (reason-entry m s t (length out) limits (z ∙ en) (ap (entriesBelow t) (sym en) ∙ sym eb ∙ not-true b h))
 
-    module _ (h : not b ≡ false) (q : Bool) (eq : q ≡ repeats (length t) t) where
+    module _ (h : not b ≡ false) (q : Bool) (eq : q ≡ repeats (length t) (entry t)) where
       below : entriesBelow t (2 ^ m) ≡ true
       below = ap (entriesBelow t) (sym en) ∙ sym eb ∙ not-false b h
 
-      repeated : (v : Bool) → q ≡ v → repeats (2 ^ m) t ≡ v
-      repeated v e = ap (λ (k : ℕ). repeats k t) (sym (z ∙ en)) ∙ sym eq ∙ e
+      repeated : (v : Bool) → q ≡ v → repeats (2 ^ m) (entry t) ≡ v
+      repeated v e = ap (λ (k : ℕ). repeats k (entry t)) (sym (z ∙ en)) ∙ sym eq ∙ e
 
       pub entry-repeats : q ≡ true → (out : List ℕ) (r : Produced) → r ≡ refused 8 → Answered m s t out r out
       entry-repeats e out r er = refusal-answer m s t out r 8 er (omega arith) (reason-repeat m s t (length out) limits (z ∙ en) below (repeated true e))

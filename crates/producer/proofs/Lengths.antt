@@ -8,9 +8,9 @@ use native.Mathlib.Omega.{arith}
 use lib.Dec.{eqb}
 use lib.ListN.{length, take, drop, length-append}
 use lib.Seq.{length-take-le}
-use Rattle.anf.specs.Tests.{pick}
-use Rattle.producer.specs.declared.Produced.{Produced}
+use Rattle.finite.specs.Tests.{pick}
 use Rattle.producer.specs.Producing.{produced, producedReason, producing, outputAfter}
+use Rattle.producer.specs.declared.Produced.{Produced}
 
 module _ (m s : ℕ) (t out : List ℕ) where
   pub length-within : producing m s t (length out) .length ≤ length (outputAfter m s t out)

@@ -1,5 +1,4 @@
 -- Laws of the direct sharing.
-pub mod Elements
 pub mod Products
 pub mod Expansion
 pub mod Counts

@@ -3,51 +3,21 @@
 use mathlib.Core.Path.{_≡_, refl, sym, ap, _∙_}
 use mathlib.Core.Logic.{_⊎_, inl, inr, ⊎-elim}
 use mathlib.Core.Bool.{Bool, true, false, not, _&&_}
-use Prim.Native.Nat.{ℕ, zero, suc, _+_, _-_, _*_, _%_, _^_, _≤_, _<_}
+use Prim.Native.Nat.{ℕ, zero, suc, _+_, _-_, _*_, _^_, _≤_, _<_}
 use native.Mathlib.Decide.{ℕ-discrete}
 use native.Mathlib.Omega.{arith}
-use lib.Pow.{high}
 use lib.Dec.{eqb}
 use lib.Count.{ones}
 use borrow.Author.Tests.{eqb-true, eqb-false, eq-eqb, ne-eqb, not-true, not-false}
-use Rattle.anf.specs.Tests.{pick, bit, any, first, count, total}
-use Rattle.anf.proofs.Testing.{true-or-false, clash, below, and-left, any-some, any-none, first-is, first-none, pick-true, pick-false}
-use Rattle.anf.proofs.Counting.{total-congr, total-mono, count-has}
+use Rattle.finite.specs.Tests.{pick, bit, any, first, count}
+use Rattle.finite.specs.Sets.{has}
+use Rattle.finite.proofs.Testing.{true-or-false, clash, and-left, any-some, any-none, first-is, first-none, pick-true, pick-false}
+use Rattle.finite.proofs.Counting.{total-congr, total-mono, count-has, total-swap, ones-each}
+use Rattle.finite.proofs.Elements.{has-none, some-element, ones-count, made-lt, made-has}
 use Rattle.threshold.specs.Sharing.{share}
-use Rattle.producer.specs.Direct.{has, isProduct, chosen, after, componentFor}
-use Rattle.producer.proofs.Elements.{has-none, has-low, some-element, share-lt, share-has, ones-count}
+use Rattle.threshold.proofs.Sharing.{share-lt, share-has}
+use Rattle.producer.specs.Direct.{isProduct, chosen, after, componentFor}
 use Rattle.producer.proofs.Products.{product-at}
-use Rattle.producer.proofs.Counts.{total-swap}
-
--- ---- a set made of its elements
-
-module _ (q : ℕ → Bool) where
-  abbrev made : ℕ → ℕ
-  made n = total n (λ j. bit (q j) * 2 ^ j)
-
-  made-lt : (n : ℕ) → made n < 2 ^ n
-  unfolding total
-  made-lt zero = omega arith
-  made-lt (suc n) = at (q n) (made-lt n)
-    where
-      at : (b : Bool) → made n < 2 ^ n → bit b * 2 ^ n + made n < 2 ^ suc n
-      at true h = omega arith
-      at false h = omega arith
-
-  made-has : (n j : ℕ) → j < n → has (made n) j ≡ q j
-  unfolding total
-  made-has zero j l = absurd (omega arith)
-  made-has (suc n) j l =
-      below l
-      (λ e. ap (has (bit (q n) * 2 ^ n + made n)) e ∙ top-bit (q n) ∙ ap q (sym e))
-      (λ k. has-low n (bit (q n)) (made n) j (made-lt n) k ∙ made-has n j k)
-    where
-      top-bit : (b : Bool) → has (bit b * 2 ^ n + made n) n ≡ b
-      top-bit b = unfold has in ap (λ (x : ℕ). eqb (x % 2) 1) (high (bit b) n (made-lt n)) ∙ at b
-        where
-          at : (b : Bool) → eqb (bit b % 2) 1 ≡ b
-          at true = refl
-          at false = refl
 
 pub chosen-lt : (m s p : ℕ) → chosen m s p < 2 ^ s
 unfolding chosen
@@ -123,11 +93,6 @@ module _ (s J : ℕ) where
           rw z (first-is s goes (goes-some c (d .0) l (d .1) n (d .2)) .0)
 
 -- ---- a product of fewer than s variables leaves a share out
-
-ones-each : (n : ℕ) → total n (λ j. 1) ≡ n
-unfolding total
-ones-each zero = refl
-ones-each (suc n) = omega (arith, ones-each n)
 
 pub left-out : (m s u p : ℕ) → u < 2 ^ m → isProduct m s u p ≡ true → ones u < s → (c : ℕ) × (c < s) × (share m c p ≡ 0)
 left-out m s u p l e h = at (true-or-false (any s (λ j. eqb (share m j p) 0)))

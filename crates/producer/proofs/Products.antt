@@ -1,21 +1,22 @@
 -- The products of a term: share by share, a product takes a subset of the term's variables, and the shares below it take the others.
 -- So a product tells its term, and products of different terms are different: nothing cancels.
 use mathlib.Core.Path.{_≡_, refl, sym, ap, _∙_}
-use mathlib.Core.Bool.{Bool, true, false, not, _&&_}
-use Prim.Native.Nat.{ℕ, suc, _+_, _-_, _*_, _^_, _<_}
+use mathlib.Core.Bool.{Bool, true, false, _&&_}
+use Prim.Native.Nat.{ℕ, suc, _+_, _*_, _^_, _<_}
 use native.Mathlib.Nat.{zero-add}
 use native.Mathlib.Omega.{arith}
 use lib.Pow.{pow-pos}
 use lib.Dec.{eqb}
 use lib.Bits.{bitXor}
 use borrow.Author.Tests.{eqb-true, eq-eqb, ne-eqb}
-use Rattle.anf.specs.Tests.{implies, all, bit, count, total}
-use Rattle.anf.specs.NormalForm.{subset}
-use Rattle.anf.proofs.Testing.{bool-ext, and-intro, and-left, and-right, all-at, all-intro, all-congr}
-use Rattle.anf.proofs.Counting.{count-congr}
+use Rattle.finite.specs.Tests.{implies, bit, count, total}
+use Rattle.finite.specs.Sets.{subset, has}
+use Rattle.finite.proofs.Testing.{bool-ext, all-at, all-intro, all-congr, all-and}
+use Rattle.finite.proofs.Counting.{count-congr, bit-inj}
+use Rattle.finite.proofs.Elements.{has-none, sets-eq, unlike, has-xor, subset-all, has-low}
 use Rattle.threshold.specs.Sharing.{share}
-use Rattle.producer.specs.Direct.{has, isProduct}
-use Rattle.producer.proofs.Elements.{has-none, sets-eq, share-lt, unlike, has-xor, subset-all, has-low, share-has, place-lt}
+use Rattle.threshold.proofs.Sharing.{share-lt, share-has, place-lt}
+use Rattle.producer.specs.Direct.{isProduct}
 
 pub product-at : (m s u p : ℕ) → isProduct m s u p ≡ true → (v : ℕ) → v < m → count s (λ j. has p (j * m + v)) ≡ bit (has u v)
 unfolding isProduct
@@ -25,24 +26,12 @@ pub at-product : (m s u p : ℕ) → ((v : ℕ) → v < m → count s (λ j. has
 unfolding isProduct
 at-product m s u p h = all-intro m _ (λ v l. eq-eqb _ _ (h v l))
 
-bit-inj : (a b : Bool) → bit a ≡ bit b → a ≡ b
-bit-inj true true e = refl
-bit-inj true false e = absurd (omega arith)
-bit-inj false true e = absurd (omega arith)
-bit-inj false false e = refl
-
 -- a product tells its term
 pub product-term : (m s u u′ p : ℕ) → u < 2 ^ m → u′ < 2 ^ m → isProduct m s u p ≡ true → isProduct m s u′ p ≡ true → u ≡ u′
 product-term m s u u′ p l l′ e e′ =
     sets-eq m u u′ l l′ (λ v k. bit-inj (has u v) (has u′ v) (sym (product-at m s u p e v k) ∙ product-at m s u′ p e′ v k))
 
 -- ---- one more share
-
-all-and : (n : ℕ) (p q : ℕ → Bool) → all n (λ i. p i && q i) ≡ (all n p && all n q)
-all-and n p q =
-    bool-ext _ _
-    (λ e. and-intro (all-intro n p (λ i l. and-left (p i) (q i) (all-at n _ e i l))) (all-intro n q (λ i l. and-right (p i) (q i) (all-at n _ e i l))))
-    (λ e. all-intro n _ (λ i l. and-intro (all-at n p (and-left (all n p) (all n q) e) i l) (all-at n q (and-right (all n p) (all n q) e) i l)))
 
 -- for each variable: the new share may take it where the term has it, and then none below takes it
 one-more : (t u : Bool) (c : ℕ) → eqb (bit t + c) (bit u) ≡ (implies t u && eqb c (bit (unlike u t)))

@@ -3,7 +3,7 @@
 use mathlib.Core.Path.{_≡_, sym, ap, ap₂, _∙_, subst}
 use mathlib.Core.Logic.{_↔_}
 use mathlib.Core.List.{List, [], _∷_, _++_}
-use Prim.Native.Nat.{ℕ, zero, suc, _+_, _-_, _*_, _^_, _≤_, _<_}
+use Prim.Native.Nat.{ℕ, zero, suc, _+_, _*_, _^_, _≤_, _<_}
 use native.Mathlib.Nat.{mul-assoc, add-mul, add-assoc, mul-zero, not-suc-le-zero}
 use native.Mathlib.Decide.{decLt}
 use native.Mathlib.Omega.{arith}
@@ -11,11 +11,12 @@ use lib.Arith.{digits-lt, digits-div, digits-mod}
 use lib.Pow.{pow-pos, high, low}
 use lib.ListN.{length, getD, set, take, drop, length-take}
 use lib.Seq.{split-at, set-split, getD-take}
+use Rattle.finite.proofs.Sums.{xorBelow-ext}
 use Rattle.anf.specs.NormalForm.{degree}
-use Rattle.anf.proofs.Sums.{xorBelow-ext}
 use Rattle.anf.specs.Points.{Points}
+use Rattle.anf.specs.Tables.{entry}
 use Rattle.anf.proofs.Degree.{degree-bound}
-use Rattle.design.specs.Design.{entry, TableFits}
+use Rattle.design.specs.Design.{TableFits}
 use Rattle.threshold.specs.Sharing.{share, setting, putShare, withShare}
 use Rattle.threshold.specs.Stages.{component}
 use Rattle.threshold.proofs.Sharing.{pow-step, share-zero, share-suc, setting-put, sum-shares}

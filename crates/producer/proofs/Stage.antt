@@ -2,9 +2,9 @@
 -- components sum to the expansion of the box's terms; and a product goes to a component whose share it does not name.
 use mathlib.Core.Path.{_≡_, refl, sym, ap, ap₂, _∙_}
 use mathlib.Core.Logic.{_⊎_, inl, inr}
-use mathlib.Core.Bool.{Bool, true, false, not, _&&_}
+use mathlib.Core.Bool.{Bool, true, false, _&&_}
 use mathlib.Core.List.{List, []}
-use Prim.Native.Nat.{ℕ, _+_, _-_, _*_, _/_, _%_, _^_, _<_}
+use Prim.Native.Nat.{ℕ, _+_, _*_, _/_, _%_, _^_, _<_}
 use native.Mathlib.Nat.{mul-comm}
 use native.Mathlib.Omega.{arith}
 use lib.Arith.{digits-div, digits-mod}
@@ -13,25 +13,27 @@ use lib.Bits.{bitAnd}
 use lib.Count.{ones}
 use lib.ListN.{length, getD}
 use borrow.Author.Tests.{eqb-true, eq-eqb, ne-eqb}
-use Rattle.anf.specs.Tests.{pick, bit, any}
-use Rattle.anf.specs.Sums.{xorBelow}
-use Rattle.anf.specs.NormalForm.{subset, subsetSum, degree}
+use Rattle.finite.specs.Tests.{pick, bit, any}
+use Rattle.finite.specs.Sums.{xorBelow}
+use Rattle.finite.specs.Sets.{subset, has}
+use Rattle.finite.proofs.Testing.{true-or-false, clash, and-left, and-right, any-some, any-none, tabulate-at, tabulate-length}
+use Rattle.finite.proofs.Sums.{xorBelow-ext, xorBelow-none, xorBelow-one, xorBelow-swap, xorBelow-bit, xorBelow-lt, pick-zero, xorBelow-pick}
+use Rattle.finite.proofs.Elements.{has-none, bits-eq}
+use Rattle.anf.specs.NormalForm.{subsetSum, degree}
 use Rattle.anf.specs.Terms.{valueAt}
-use Rattle.anf.proofs.Testing.{true-or-false, clash, and-left, and-right, any-some, any-none, tabulate-at, tabulate-length}
-use Rattle.anf.proofs.Sums.{xorBelow-ext, xorBelow-none, xorBelow-one, xorBelow-swap, xorBelow-bit, xorBelow-lt, pick-zero}
+use Rattle.anf.specs.Tables.{entry}
 use Rattle.anf.proofs.Terms.{clear-add, subset-clear}
 use Rattle.anf.proofs.Passing.{valueAt-passing, table-terms}
 use Rattle.anf.proofs.Degree.{degree-at}
-use Rattle.design.specs.Design.{entry, TableFits}
+use Rattle.design.specs.Design.{TableFits}
 use Rattle.threshold.specs.Sharing.{share, sum, withShare, variables}
 use Rattle.threshold.specs.Stages.{output, component, Correct, NonComplete}
-use Rattle.threshold.proofs.Sharing.{share-lt, sum-lt, with-own, setting-with}
+use Rattle.threshold.proofs.Sharing.{share-lt, sum-lt, with-own, setting-with, share-bit, place-lt}
 use Rattle.threshold.proofs.Output.{output-bit, component-eq}
 use Rattle.threshold.proofs.Dependence.{clear-variables, setting-clear}
-use Rattle.producer.specs.Direct.{has, isProduct, chosen, componentFor, stands, directList, directLists, directStage}
-use Rattle.producer.proofs.Elements.{has-none, bits-eq, share-bit, place-lt}
+use Rattle.producer.specs.Direct.{isProduct, chosen, componentFor, stands, directList, directLists, directStage}
 use Rattle.producer.proofs.Products.{product-term}
-use Rattle.producer.proofs.Expansion.{expansion, xorBelow-pick}
+use Rattle.producer.proofs.Expansion.{expansion}
 use Rattle.producer.proofs.Placement.{unchosen, component-outside, product-component}
 
 -- ---- the lists

@@ -12,12 +12,13 @@ use lib.Seq.{set-getD}
 use mir.Syntax.{w32, w64}
 use mir.Val.{Fits}
 use borrow.Author.Tests.{not-true, not-false}
-use Rattle.anf.specs.Tests.{pick}
+use Rattle.finite.specs.Tests.{pick}
+use Rattle.finite.specs.Sets.{has}
+use Rattle.finite.proofs.Testing.{pick-true, pick-false}
 use Rattle.anf.specs.Terms.{before}
-use Rattle.anf.proofs.Testing.{pick-true, pick-false}
 use Rattle.design.specs.Limits.{greatestTerms}
 use Rattle.design.proofs.Limits.{bounds}
-use Rattle.producer.specs.Direct.{has, directList}
+use Rattle.producer.specs.Direct.{directList}
 use Rattle.producer.specs.Expanding.{joined, ending, emitted, inserted, insertedAll, Grown, brought, Expands, Gathers}
 use Rattle.producer.proofs.Inserting.{going, going-on, going-end}
 use Rattle.producer.proofs.Emitting.{through, inserted-one, inserted-none, ending-here, ending-other, emitted-end, emitted-skip, emitted-each, expands-skip, expands-share, bit-place, turn-count, turn-list}

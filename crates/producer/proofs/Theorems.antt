@@ -1,7 +1,7 @@
 -- What producing promises, of a permutation within the limits: 16 is answered exactly when the box cannot be shared, over all component functions;
 -- and what is produced reads as the direct sharing, whose stage is correct and non-complete.
 use mathlib.Core.Path.{_≡_, refl, sym, ap, _∙_, subst}
-use mathlib.Core.Logic.{_↔_, _⊎_, ⊎-elim}
+use mathlib.Core.Logic.{_↔_, ⊎-elim}
 use mathlib.Core.Bool.{Bool, true, false, not}
 use mathlib.Core.List.{List, [], _∷_}
 use Prim.Native.Nat.{ℕ, _^_, _≤_, _<_}
@@ -10,14 +10,15 @@ use lib.Dec.{eqb, ltb, leb}
 use lib.ListN.{length, take, drop}
 use lib.Seq.{take-append-seam, drop-append-seam}
 use borrow.Author.Tests.{eqb-true, eq-eqb, ne-eqb, leb-false, lt-leb, ltb-false, le-ltb, not-false}
-use Rattle.anf.specs.Tests.{pick}
-use Rattle.anf.specs.Tables.{entriesBelow, repeats}
+use Rattle.finite.specs.Tests.{pick}
+use Rattle.finite.specs.Maps.{repeats}
+use Rattle.finite.proofs.Testing.{true-or-false, pick-true, pick-false}
+use Rattle.finite.proofs.Maps.{repeats→injective, injective→repeats}
+use Rattle.anf.specs.Tables.{entriesBelow, entry}
 use Rattle.anf.specs.NormalForm.{degree}
-use Rattle.anf.proofs.Testing.{true-or-false, pick-true, pick-false}
-use Rattle.anf.proofs.Tables.{entries-at, entries-intro, repeats-none, none-repeats}
-use Rattle.anf.proofs.Answers.{no-refusal}
+use Rattle.anf.proofs.Tables.{entries-at, entries-intro}
 use Rattle.design.specs.Limits.{broken}
-use Rattle.design.specs.Design.{entry, WellFormed}
+use Rattle.design.specs.Design.{WellFormed}
 use Rattle.design.specs.Reading.{means, reading}
 use Rattle.design.proofs.Limits.{bounds}
 use Rattle.design.proofs.Theorems.{encode-reads}
@@ -25,12 +26,17 @@ use Rattle.threshold.specs.Stages.{component, correct, nonComplete, Correct, No
 use Rattle.threshold.specs.Chain.{chained}
 use Rattle.threshold.proofs.Tests.{correct↔, nonComplete↔}
 use Rattle.producer.specs.Direct.{directStage, directSharing, Shareable, Box}
-use Rattle.producer.specs.Producing.{produced, producedReason, producing, outputAfter}
+use Rattle.producer.specs.Producing.{produced, producedReason, outputAfter}
 use Rattle.producer.proofs.Stage.{direct-correct, direct-non-complete}
 use Rattle.producer.proofs.Formed.{sharing-formed}
 use Rattle.producer.proofs.Shareable.{shareable-low, low-shareable}
 
 -- the tests that come before 16
+-- a refusal that is not given: its test does not pass, and what follows gives none
+no-refusal : (b : Bool) (r rest : ℕ) → 0 < r → pick b r rest ≡ 0 → (b ≡ false) × (rest ≡ 0)
+no-refusal true r rest p e = absurd (omega arith)
+no-refusal false r rest p e = (refl, e)
+
 module _ (m s : ℕ) (t : List ℕ) (room : ℕ) where
   abbrev sixteen : ℕ
   sixteen = pick (leb s (degree m (entry t))) 16 (pick (ltb room (length (produced m s t))) 17 0)
@@ -41,7 +47,7 @@ module _ (m s : ℕ) (t : List ℕ) (room : ℕ) where
       pick-false (broken m s 1) 4 _ (b .limits)
       ∙ pick-false (not (eqb (length t) (2 ^ m))) 3 _ (ap not (eq-eqb _ _ (b .table .size)))
       ∙ pick-false (not (entriesBelow t (2 ^ m))) 5 _ (ap not (entries-intro t (2 ^ m) (λ x l. b .table .below x (subst (λ (n : ℕ). x < n) (b .table .size) l))))
-      ∙ pick-false (repeats (2 ^ m) t) 8 _ (none-repeats (2 ^ m) t (b .injective))
+      ∙ pick-false (repeats (2 ^ m) (entry t)) 8 _ (injective→repeats (2 ^ m) (entry t) (b .injective))
 
   -- ---- 16
 
@@ -82,7 +88,7 @@ module _ (m s : ℕ) (t : List ℕ) (room : ℕ) where
       let a = no-refusal (broken m s 1) 4 _ (omega arith) e in
       let b = no-refusal (not (eqb (length t) (2 ^ m))) 3 _ (omega arith) (a .1) in
       let c = no-refusal (not (entriesBelow t (2 ^ m))) 5 _ (omega arith) (b .1) in
-      let d = no-refusal (repeats (2 ^ m) t) 8 _ (omega arith) (c .1) in
+      let d = no-refusal (repeats (2 ^ m) (entry t)) 8 _ (omega arith) (c .1) in
       let f = no-refusal (leb s (degree m (entry t))) 16 _ (omega arith) (d .1) in
       let g = no-refusal (ltb room (length (produced m s t))) 17 0 (omega arith) (f .1) in
       let size : length t ≡ 2 ^ m = eqb-true _ _ (not-false _ (b .0)) in
@@ -90,7 +96,7 @@ module _ (m s : ℕ) (t : List ℕ) (room : ℕ) where
         box = record {
           limits = a .0;
           table = record { size = size; below = λ x l. entries-at t (2 ^ m) (not-false _ (c .0)) x (subst (λ (n : ℕ). x < n) (sym size) l) };
-          injective = repeats-none (2 ^ m) t (d .0);
+          injective = repeats→injective (2 ^ m) (entry t) (d .0);
         };
         low = leb-false _ _ (f .0);
         fits = ltb-false _ _ (g .0);

@@ -1,13 +1,13 @@
 -- The records of the lists, one behind the other: how long they are, and that each that is written makes one more of them.
 use mathlib.Core.Path.{_≡_, refl, sym, ap, ap₂, _∙_}
 use mathlib.Core.List.{List, [], _∷_, _++_, map, append-assoc, append-nil}
-use Prim.Native.Nat.{ℕ, _+_, _-_, _*_, _/_, _%_, _≤_, _<_}
+use Prim.Native.Nat.{ℕ, _+_, _*_, _/_, _%_, _≤_, _<_}
 use native.Mathlib.Nat.{zero-add}
 use native.Mathlib.Numerals.{add-one}
 use native.Mathlib.Omega.{arith}
 use lib.ListN.{length, getD, take, drop, length-take, length-append, take-append-drop}
 use lib.Seq.{take-suc, take-length}
-use Rattle.anf.proofs.Testing.{tabulate-at, tabulate-length}
+use Rattle.finite.proofs.Testing.{tabulate-at, tabulate-length}
 use Rattle.design.specs.Bytes.{four, termBytes, overwrite}
 use Rattle.design.specs.Encode.{join, recordHead, aRecord, stageBytes, encode}
 use Rattle.design.proofs.TermBytes.{length-termBytes}

@@ -1,7 +1,7 @@
 -- Bench designs: what producing answers and leaves.
 use Prim.Native.Nat.{ℕ}
 use mathlib.Core.List.{List, [], _∷_, _++_}
-use Rattle.anf.specs.Tests.{tabulate}
+use Rattle.finite.specs.Tests.{tabulate}
 use Rattle.producer.specs.declared.Produced.{Produced}
 
 pub record Row : Type 0 where

@@ -1,20 +1,18 @@
 -- The direct sharing of a box.
-use Prim.Native.Nat.{ℕ, _+_, _*_, _/_, _%_, _^_, _<_}
+use Prim.Native.Nat.{ℕ, _+_, _*_, _/_, _%_, _^_}
 use mathlib.Core.Path.{_≡_}
 use mathlib.Core.Bool.{Bool, false, not, _&&_}
 use mathlib.Core.List.{List, [], _∷_}
 use lib.Dec.{eqb}
-use Rattle.anf.specs.Tests.{pick, all, any, first, total, bit, count, tabulate}
+use Rattle.finite.specs.Tests.{pick, all, any, first, total, bit, count, tabulate}
+use Rattle.finite.specs.Sets.{has}
 use Rattle.anf.specs.NormalForm.{subsetSum}
 use Rattle.anf.specs.Terms.{passing}
+use Rattle.anf.specs.Tables.{entry, Permutation}
 use Rattle.design.specs.Limits.{broken}
-use Rattle.design.specs.Design.{Stage, Design, TableFits, entry}
+use Rattle.design.specs.Design.{Stage, Design, TableFits}
 use Rattle.threshold.specs.Sharing.{share}
 use Rattle.threshold.specs.Stages.{Correct, NonComplete}
-
--- the set x has the element i: bit i of x is 1
-unfoldable pub has : ℕ → ℕ → Bool
-has x i = eqb (x / 2 ^ i % 2) 1
 
 -- p is a product of the term u: a share is chosen for each variable of u, and p names that share's bit of it and no other
 unfoldable pub isProduct : ℕ → ℕ → ℕ → ℕ → Bool
@@ -61,4 +59,4 @@ pub record Shareable (m s : ℕ) (t : List ℕ) : Type 0 where
 pub record Box (m s : ℕ) (t : List ℕ) : Type 0 where
   pub limits : broken m s 1 ≡ false
   pub table : TableFits m t
-  pub injective : (x y : ℕ) → x < 2 ^ m → y < 2 ^ m → entry t x ≡ entry t y → x ≡ y
+  pub injective : Permutation m t

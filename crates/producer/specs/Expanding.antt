@@ -6,15 +6,15 @@ use mathlib.Core.List.{List, [], _∷_, _++_, map}
 use lib.Dec.{eqb, ltb, leb}
 use lib.Bits.{bitOr}
 use lib.ListN.{length, getD, take}
-use Rattle.anf.specs.Tests.{pick, tabulate}
+use Rattle.finite.specs.Tests.{pick, tabulate}
+use Rattle.finite.specs.Sets.{has}
 use Rattle.anf.specs.NormalForm.{subsetSum, degree}
-use Rattle.anf.specs.Tables.{entriesBelow}
+use Rattle.anf.specs.Tables.{entriesBelow, entry}
 use Rattle.anf.specs.Terms.{before}
 use Rattle.design.specs.Limits.{greatestTerms, broken}
 use Rattle.design.specs.Bytes.{termBytes}
 use Rattle.design.specs.Encode.{join, aRecord, encode}
-use Rattle.design.specs.Design.{entry}
-use Rattle.producer.specs.Direct.{has, componentFor}
+use Rattle.producer.specs.Direct.{componentFor}
 use Rattle.producer.specs.Producing.{produced, producedReason}
 use Rattle.producer.specs.declared.Produced.{Produced}
 

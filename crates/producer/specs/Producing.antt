@@ -4,11 +4,11 @@ use mathlib.Core.Bool.{not}
 use mathlib.Core.List.{List, _++_}
 use lib.ListN.{length, drop}
 use lib.Dec.{eqb, ltb, leb}
-use Rattle.anf.specs.Tests.{pick}
-use Rattle.anf.specs.Tables.{entriesBelow, repeats}
+use Rattle.finite.specs.Tests.{pick}
+use Rattle.finite.specs.Maps.{repeats}
+use Rattle.anf.specs.Tables.{entriesBelow, entry}
 use Rattle.anf.specs.NormalForm.{degree}
 use Rattle.design.specs.Limits.{broken}
-use Rattle.design.specs.Design.{entry}
 use Rattle.design.specs.Encode.{encode}
 use Rattle.producer.specs.Direct.{directSharing}
 use Rattle.producer.specs.declared.Produced.{Produced}
@@ -23,7 +23,7 @@ producedReason m s t room =
     pick (broken m s 1) 4
     (pick (not (eqb (length t) (2 ^ m))) 3
     (pick (not (entriesBelow t (2 ^ m))) 5
-    (pick (repeats (2 ^ m) t) 8
+    (pick (repeats (2 ^ m) (entry t)) 8
     (pick (leb s (degree m (entry t))) 16
     (pick (ltb room (length (produced m s t))) 17 0)))))
 

@@ -1,17 +1,15 @@
 // The expansion of terms into products, and the list of one bit of one component.
-use anf::points;
 use design::stands_before;
+use finite::power;
 ghost use mathlib.Core.Path.{_≡_};
-ghost use mathlib.Core.Bool.{false};
-ghost use mathlib.Core.List.{[]};
 ghost use Prim.Native.Nat.{_+_, _^_, _<_, _≤_};
 ghost use lib.Bits.{bitOr};
 ghost use lib.ListN.{length, getD, set, take};
-ghost use Rattle.anf.specs.Tests.{pick};
+ghost use Rattle.finite.specs.Tests.{pick};
+ghost use Rattle.finite.specs.Sets.{has as hasElement};
 ghost use Rattle.anf.specs.Terms.{before};
-ghost use Rattle.design.specs.Limits.{greatestTerms, broken};
+ghost use Rattle.design.specs.Limits.{greatestTerms};
 ghost use Rattle.producer.specs.Direct.{directList};
-ghost use Rattle.producer.specs.Direct.{has as hasElement};
 ghost use Rattle.producer.specs.Expanding.{ending, emitted, inserted, Grown, brought, ruleTables, Expands, Gathers};
 
 // The component to which a product goes, by the set of its chosen shares: for 3 shares, for 4, for 5. Of all shares there is none.
@@ -214,7 +212,7 @@ pub fn gather(
     ensures { λ r. ⌜ (r ≡ length (directList m s (λ u. getD (now (words .entry)) u 0) to b)) × (r ≤ greatestTerms) ⌝ }
     ensures { λ r. ⌜ take r (now (list .exit)) ≡ directList m s (λ u. getD (now (words .entry)) u 0) to b ⌝ }
 {
-    let n = points(m);
+    let n = power(m);
     let mut count: usize = 0;
     let mut u: usize = 0;
     while u < n {

@@ -5,7 +5,6 @@ use design::put_head;
 use design::put_term;
 ghost use mathlib.Core.Path.{_≡_};
 ghost use mathlib.Core.Bool.{false};
-ghost use mathlib.Core.List.{List};
 ghost use Prim.Native.Nat.{_+_, _*_, _^_, _<_, _≤_};
 ghost use lib.ListN.{length, getD, take};
 ghost use Rattle.design.specs.Limits.{greatestTerms, broken};

@@ -3,7 +3,6 @@ mod expand; // expand.rt: the expansion of terms into products, and the list of 
 mod file; // file.rt: the file's length, and writing it
 
 use anf::entries_below;
-use anf::points;
 use anf::repeats;
 use anf::to_coefficients;
 use anf::words_degree;
@@ -13,6 +12,7 @@ use design::Head;
 use expand::rules;
 use file::lists_size;
 use file::put_file;
+use finite::power;
 ghost use mathlib.Core.Path.{_≡_};
 ghost use mathlib.Core.Bool.{false};
 ghost use lib.ListN.{length};
@@ -64,7 +64,7 @@ fn share(m: usize, s: usize, table: &[u8], words: &[u8], output: &mut [u8]) -> P
     ensures { λ r. ⌜ r ≡ producing m s (now (table .entry)) (length (now (output .entry))) ⌝ }
     ensures { λ _. ⌜ now (output .exit) ≡ outputAfter m s (now (table .entry)) (now (output .entry)) ⌝ }
 {
-    let sets = points(s);
+    let sets = power(s);
     let tables = rules();
     let rule = &tables[sets - 8..sets - 8 + sets];
     let mut list = [0u32; GREATEST_TERMS];
@@ -93,7 +93,7 @@ fn produce_within(m: usize, s: usize, table: &[u8], output: &mut [u8]) -> Produc
     ensures { λ r. ⌜ r ≡ producing m s (now (table .entry)) (length (now (output .entry))) ⌝ }
     ensures { λ _. ⌜ now (output .exit) ≡ outputAfter m s (now (table .entry)) (now (output .entry)) ⌝ }
 {
-    let n = points(m);
+    let n = power(m);
     if table.len() != n {
         return refusal(3);
     }

@@ -8,9 +8,10 @@ use Prim.Native.Nat.{ℕ, _<_}
 use native.Mathlib.Omega.{arith}
 use lib.Dec.{eqb}
 use borrow.Author.Tests.{eqb-true, eq-eqb}
-use Rattle.anf.specs.Tests.{count}
-use Rattle.anf.proofs.Testing.{bool-ext, and-intro, and-right}
-use Rattle.anf.proofs.Counting.{Injective, count-congr, count-one, count-some, count-unique, count-renamed, pigeonhole}
+use Rattle.finite.specs.Tests.{count}
+use Rattle.finite.specs.Maps.{Injective}
+use Rattle.finite.proofs.Testing.{bool-ext, and-intro, and-right}
+use Rattle.finite.proofs.Counting.{count-congr, count-one, count-some, count-unique, count-renamed, pigeonhole}
 use Rattle.threshold.specs.Stages.{ExactlyOne}
 
 -- ---- exactly one, and the count 1

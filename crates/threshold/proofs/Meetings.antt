@@ -11,9 +11,11 @@ use native.Mathlib.Omega.{arith}
 use lib.Dec.{eqb}
 use lib.ListN.{length, getD, take}
 use lib.Seq.{take-length}
-use Rattle.anf.specs.Tests.{count}
-use Rattle.anf.proofs.Counting.{Injective, count-congr, by-part-once}
-use Rattle.design.specs.Design.{Stage, entry, noStage}
+use Rattle.finite.specs.Tests.{count}
+use Rattle.finite.specs.Maps.{Injective}
+use Rattle.finite.proofs.Counting.{count-congr, by-part-once}
+use Rattle.anf.specs.Tables.{entry}
+use Rattle.design.specs.Design.{Stage, noStage}
 use Rattle.threshold.specs.Sharing.{sum, setting, putShare}
 use Rattle.threshold.specs.Stages.{output, component, Correct, Ignores, Uniform, correct, uniform}
 use Rattle.threshold.specs.Chain.{chained, handed, meetings}

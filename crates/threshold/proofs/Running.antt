@@ -15,10 +15,10 @@ use lib.ListN.{length, getD, set, drop}
 use lib.Seq.{ext-getD}
 use borrow.Author.Tests.{eqb-true, ltb-true, lt-ltb, le-ltb}
 use lib.Bits.{bitXor, xor-zero-r}
-use Rattle.anf.specs.Sums.{xorBelow}
-use Rattle.anf.proofs.Sums.{xorBelow-none, xorBelow-add, xorBelow-ext}
-use Rattle.anf.specs.Tests.{pick, total, tabulate}
-use Rattle.anf.proofs.Testing.{below, all-at, all-intro, pick-true, pick-false, tabulate-at, tabulate-length, tabulate-more}
+use Rattle.finite.specs.Sums.{xorBelow}
+use Rattle.finite.specs.Tests.{pick, total, tabulate}
+use Rattle.finite.proofs.Sums.{xorBelow-none, xorBelow-add, xorBelow-ext}
+use Rattle.finite.proofs.Testing.{below, all-at, all-intro, pick-true, pick-false, tabulate-at, tabulate-length, tabulate-more}
 use Rattle.design.specs.Limits.{greatestShares, greatestShareBits}
 use Rattle.design.specs.Design.{Stage, Design, noStage}
 use Rattle.design.specs.Reading.{Reading, refused, means, reading, meaning}

@@ -12,8 +12,8 @@ use lib.ListN.{length, getD, set, drop}
 use borrow.Author.Tests.{lt-ltb, le-ltb, not-true, not-false}
 use mir.Syntax.{w8, w32, w64}
 use mir.Val.{Fits}
-use Rattle.anf.specs.Tests.{all, tabulate}
-use Rattle.anf.proofs.Testing.{all-more, all-fails}
+use Rattle.finite.specs.Tests.{all, tabulate}
+use Rattle.finite.proofs.Testing.{all-more, all-fails}
 use Rattle.design.specs.Limits.{greatestWidth, greatestShares, greatestShareBits}
 use Rattle.design.specs.Design.{stageOf}
 use Rattle.design.specs.Reading.{meaning}
@@ -24,8 +24,7 @@ use Rattle.design.proofs.StageLists.{stages-length, lists-length}
 use Rattle.threshold.specs.Stages.{output, component}
 use Rattle.threshold.specs.Running.{packed, unpacked, shareFits, sharesFit, refusal, running}
 use Rattle.threshold.specs.declared.Ran.{Ran}
-use Rattle.threshold.proofs.Running.{zeros, share-fits, packed-none, packed-next, packed-lt, packed-small, unpacked-filled, tabulated-more}
-use Rattle.threshold.proofs.Running.{Sent, sent-start, sent-fits, sent-next, sent-end, unfit-end, running-refused}
+use Rattle.threshold.proofs.Running.{zeros, share-fits, packed-none, packed-next, packed-lt, packed-small, unpacked-filled, tabulated-more, Sent, sent-start, sent-fits, sent-next, sent-end, unfit-end, running-refused}
 
 -- ---- `share_fits`: v is share j
 

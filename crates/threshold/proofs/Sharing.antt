@@ -3,20 +3,22 @@
 use mathlib.Core.Path.{_≡_, refl, sym, ap, ap₂, _∙_, subst}
 use mathlib.Core.Bool.{_&&_}
 use Prim.Native.Nat.{ℕ, zero, suc, _+_, _-_, _*_, _/_, _%_, _^_, _≤_, _<_}
-use native.Mathlib.Nat.{le-of-suc-le-suc, not-suc-le-zero, mul-zero, mul-suc, div-one, mod-one, mul-one, add-zero, mul-comm, mul-assoc, mul-add, div-div-eq-div-mul, mod-lt, div-add-mod', add-mul, add-assoc, add-sub-of-le, div-lt-iff-lt-mul, add-comm}
+use native.Mathlib.Nat.{le-of-suc-le-suc, not-suc-le-zero, mul-zero, mul-suc, div-one, mod-one, mul-one, add-zero, mul-comm, mul-assoc, mul-add, div-div-eq-div-mul, mod-lt, div-add-mod', add-mul, add-assoc, add-sub-of-le, div-lt-iff-lt-mul, add-comm, mul-le-mul-right}
 use native.Mathlib.Omega.{arith}
 use lib.Arith.{digits-lt, digits-div, digits-mod, mod-mul, lt-one}
-use lib.Pow.{pow-pos, pow-add}
+use lib.Pow.{pow-pos, pow-add, field, mod-mod-pow, shr-shr}
 use native.Mathlib.Numerals.{sub-one}
 use lib.Bits.{bitAnd, bitXor, and-mask, xor-zero-r, xor-lt, xor-self}
 use lib.Dec.{eqb}
 use borrow.Author.Tests.{eqb-true, eq-eqb}
-use Rattle.anf.specs.Tests.{count}
-use Rattle.anf.specs.Sums.{xorBelow}
-use Rattle.anf.proofs.Testing.{and-intro, and-left, and-right}
-use Rattle.anf.proofs.Counting.{count-one}
-use Rattle.anf.proofs.Xor.{xor-assoc, xor-left-comm}
-use Rattle.anf.proofs.Sums.{xorBelow-ext, xorBelow-lt}
+use Rattle.finite.specs.Tests.{count}
+use Rattle.finite.specs.Sums.{xorBelow}
+use Rattle.finite.specs.Sets.{has}
+use Rattle.finite.proofs.Testing.{and-intro, and-left, and-right}
+use Rattle.finite.proofs.Counting.{count-one}
+use Rattle.finite.proofs.Xor.{xor-assoc, xor-left-comm}
+use Rattle.finite.proofs.Sums.{xorBelow-ext, xorBelow-lt, xorBelow-first}
+use Rattle.finite.proofs.Elements.{has-congr}
 use Rattle.threshold.specs.Sharing.{share, sum, setting, putShare, withShare}
 
 -- ---- the places of shares
@@ -53,17 +55,11 @@ setting-suc w j σ = simp (div-step, mod-step) (simp (pow-step, add-mul, mul-ass
 
 -- ---- the sum
 
-xorBelow-head : (n : ℕ) (f : ℕ → ℕ) → xorBelow (suc n) f ≡ bitXor (f 0) (xorBelow n (λ i. f (suc i)))
-unfolding xorBelow
-xorBelow-head zero f = sym (xor-zero-r (f 0))
-xorBelow-head (suc n) f =
-    ap (λ (x : ℕ). bitXor x (f (suc n))) (xorBelow-head n f) ∙ xor-assoc (f 0) (xorBelow n (λ i. f (suc i))) (f (suc n))
-
 -- the lowest share, and the sum of the others
 pub sum-suc : (w s σ : ℕ) → sum w (suc s) σ ≡ bitXor (σ % 2 ^ w) (sum w s (σ / 2 ^ w))
 unfolding sum
 sum-suc w s σ =
-    xorBelow-head s (λ j. share w j σ)
+    xorBelow-first s (λ j. share w j σ)
     ∙ ap₂ bitXor (share-zero w σ) (xorBelow-ext s (λ j. share w (suc j) σ) (λ j. share w j (σ / 2 ^ w)) (λ j l. share-suc w j σ))
 
 pub share-lt : (w j σ : ℕ) → share w j σ < 2 ^ w
@@ -211,3 +207,22 @@ pub sum-step : (w left total rest t : ℕ) → 0 < left → bitXor total (sum w 
 sum-step w (suc left) total rest t p e =
     rw (and-mask rest w, sub-one (suc left)) (xor-assoc total (rest % 2 ^ w) (sum w left (rest / 2 ^ w)) ∙ ap (bitXor total) (sym (sum-suc w left rest)) ∙ e)
 sum-step w zero total rest t p e = absurd (not-suc-le-zero p)
+
+-- ---- the bits of shares
+
+-- bit i of share j
+pub share-bit : (m j p i : ℕ) → i < m → share m j p / 2 ^ i % 2 ≡ p / 2 ^ (j * m + i) % 2
+unfolding share
+share-bit m j p i h =
+    let d : m ≡ m - suc i + 1 + i = omega arith in
+    ap (λ (y : ℕ). p / 2 ^ (m * j) % 2 ^ y / 2 ^ i % 2) d
+    ∙ ap (λ (y : ℕ). y % 2) (field (p / 2 ^ (m * j)) (m - suc i + 1) i)
+    ∙ mod-mod-pow (p / 2 ^ (m * j) / 2 ^ i) (m - suc i) 1
+    ∙ ap (λ (y : ℕ). y % 2) (shr-shr p (m * j) i ∙ ap (λ (y : ℕ). p / 2 ^ (y + i)) (mul-comm m j))
+
+pub share-has : (m j p i : ℕ) → i < m → has (share m j p) i ≡ has p (j * m + i)
+share-has m j p i h = has-congr (share m j p) p i (j * m + i) (share-bit m j p i h)
+
+-- the place of a bit of a share is within the sharing
+pub place-lt : (m s j i : ℕ) → j < s → i < m → j * m + i < m * s
+place-lt m s j i l h = omega (arith, mul-le-mul-right m l, mul-comm m s)

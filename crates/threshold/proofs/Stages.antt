@@ -6,8 +6,9 @@ use mathlib.Core.List.{List}
 use Prim.Native.Nat.{ℕ, _*_, _^_, _<_}
 use lib.ListN.{length}
 use lib.Pow.{pow-pos}
-use Rattle.anf.proofs.Counting.{Injective}
-use Rattle.design.specs.Design.{Stage, entry}
+use Rattle.finite.specs.Maps.{Injective}
+use Rattle.anf.specs.Tables.{entry}
+use Rattle.design.specs.Design.{Stage}
 use Rattle.threshold.specs.Sharing.{share, sum, setting, putShare}
 use Rattle.threshold.specs.Stages.{output, Ignores, correct, uniform}
 use Rattle.threshold.proofs.Sharing.{sum-lt, share-lt, with-other}

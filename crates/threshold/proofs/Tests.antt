@@ -6,10 +6,11 @@ use mathlib.Core.Bool.{true, false, _&&_, not}
 use Prim.Native.Nat.{ℕ, _*_, _^_, _<_}
 use lib.Dec.{eqb}
 use borrow.Author.Tests.{eqb-true, eqb-false, eq-eqb, ne-eqb, not-true, not-false}
-use Rattle.anf.specs.Tests.{count}
-use Rattle.anf.proofs.Testing.{all-at, all-intro, any-at, any-some, any-none, none-any, implies-at, implies-intro, and-intro, and-left, and-right}
-use Rattle.design.specs.Design.{Stage, entry}
-use Rattle.threshold.specs.Sharing.{share, sum, withShare}
+use Rattle.finite.specs.Tests.{count}
+use Rattle.finite.proofs.Testing.{all-at, all-intro, any-at, any-some, any-none, none-any, implies-at, implies-intro, and-intro, and-left, and-right}
+use Rattle.anf.specs.Tables.{entry}
+use Rattle.design.specs.Design.{Stage}
+use Rattle.threshold.specs.Sharing.{sum, withShare}
 use Rattle.threshold.specs.Stages.{output, component, Correct, Ignores, NonComplete, Uniform, correct, readsOwn, nonComplete, sharingsTo, uniform}
 use Rattle.threshold.proofs.Sharing.{sum-shares}
 use Rattle.threshold.proofs.Carried.{count→exactly, exactly→count}

@@ -3,8 +3,9 @@ use Prim.Native.Nat.{ℕ, zero, suc, _*_, _^_}
 use mathlib.Core.Bool.{_&&_}
 use mathlib.Core.List.{List, [], _∷_}
 use lib.Dec.{eqb}
-use Rattle.anf.specs.Tests.{count}
-use Rattle.design.specs.Design.{Stage, entry}
+use Rattle.finite.specs.Tests.{count}
+use Rattle.anf.specs.Tables.{entry}
+use Rattle.design.specs.Design.{Stage}
 use Rattle.threshold.specs.Sharing.{sum, setting}
 use Rattle.threshold.specs.Stages.{output}
 

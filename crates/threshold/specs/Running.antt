@@ -4,7 +4,7 @@ use mathlib.Core.Bool.{Bool}
 use mathlib.Core.List.{List, [], _∷_}
 use lib.Dec.{eqb, ltb}
 use lib.ListN.{getD}
-use Rattle.anf.specs.Tests.{pick, all, total, tabulate}
+use Rattle.finite.specs.Tests.{pick, all, total, tabulate}
 use Rattle.design.specs.Limits.{greatestShares}
 use Rattle.design.specs.Design.{Design}
 use Rattle.design.specs.Reading.{Reading, refused, means, reading}

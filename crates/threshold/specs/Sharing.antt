@@ -1,7 +1,7 @@
 -- Sharings. A sharing of width w in s shares is a number below 2^(w × s); share 0 is its lowest w bits, share 1 the next.
 -- (In answers shares and components are counted from 1.)
 use Prim.Native.Nat.{ℕ, _+_, _-_, _*_, _/_, _%_, _^_}
-use Rattle.anf.specs.Sums.{xorBelow}
+use Rattle.finite.specs.Sums.{xorBelow}
 
 -- share j
 unfoldable pub share : ℕ → ℕ → ℕ → ℕ

@@ -1,13 +1,14 @@
 -- A stage as functions: its components, and what correct, non-complete and uniform mean of them.
-use Prim.Native.Nat.{ℕ, zero, suc, _+_, _*_, _^_, _<_}
+use Prim.Native.Nat.{ℕ, _+_, _*_, _^_, _<_}
 use mathlib.Core.Path.{_≡_}
-use mathlib.Core.Bool.{Bool, true, false, _&&_, not}
+use mathlib.Core.Bool.{Bool, _&&_, not}
 use mathlib.Core.List.{List, [], _∷_}
 use lib.Dec.{eqb}
-use Rattle.anf.specs.Tests.{all, any, count, implies}
-use Rattle.anf.specs.Sums.{xorBelow}
+use Rattle.finite.specs.Tests.{all, any, count, implies}
+use Rattle.finite.specs.Sums.{xorBelow}
 use Rattle.anf.specs.Terms.{valueAt}
-use Rattle.design.specs.Design.{Stage, entry}
+use Rattle.anf.specs.Tables.{entry}
+use Rattle.design.specs.Design.{Stage}
 use Rattle.threshold.specs.Sharing.{share, sum, withShare}
 
 -- the output sharing at σ: bit i is the value of list i

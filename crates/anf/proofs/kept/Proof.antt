@@ -1,5 +1,4 @@
 -- `anf::kept` meets its contract: the test picks the answer.
-use borrow.Author.Needs.{needs}
 use Rattle.anf.proofs.Turning.{kept-subset, kept-none}
 use Rattle.anf.proofs.kept.Statement.{statement}
 use Rattle.anf.proofs.kept.Tie as tie

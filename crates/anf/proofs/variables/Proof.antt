@@ -1,5 +1,4 @@
 -- `anf::variables` meets its contract: the test picks the answer, and a set has at most 32 variables.
-use borrow.Author.Needs.{needs}
 use Rattle.anf.proofs.Turning.{ones-fit, no-variable, all-variables}
 use Rattle.anf.proofs.variables.Statement.{statement}
 use Rattle.anf.proofs.variables.Tie as tie

@@ -1,9 +1,9 @@
 -- `bench_designs::judge_table` meets its contract: the length that producing states lies within the output.
 -- Assumes nothing.
 use Rattle.producer.proofs.Lengths.{answer-within, answer-taken}
-use borrow.Author.Needs.{needs}
 use Rattle.bench_designs.proofs.judge_table.Statement.{statement}
 use Rattle.bench_designs.proofs.judge_table.Tie as tie
+use borrow.Author.Needs.{needs}
 
 produce-requires : tie.Need-produce-requires
 produce-requires c κs = search needs

@@ -1,9 +1,9 @@
 -- `produce::main` ends, and writes only what producing states: that length lies within the output.
 -- Assumes nothing.
 use Rattle.producer.proofs.Lengths.{answer-within, answer-taken}
-use borrow.Author.Needs.{needs}
 use Rattle.produce.proofs.main.Statement.{statement}
 use Rattle.produce.proofs.main.Tie as tie
+use borrow.Author.Needs.{needs}
 
 slice-aggregate-read-full : tie.Need-slice-aggregate-read-full
 slice-aggregate-read-full c = search needs

@@ -5,8 +5,8 @@ use Rattle.producer.proofs.Leaving.{shifts, missized, entry-beyond, ent
 use Rattle.producer.proofs.produce_within.Statement.{statement}
 use Rattle.producer.proofs.produce_within.Tie as tie
 
-points-requires : tie.Need-points-requires
-points-requires c κs = search shifts
+power-requires : tie.Need-power-requires
+power-requires c κs = search shifts
 
 refusal-requires : tie.Need-refusal-requires
 refusal-requires c κs = search needs
@@ -45,7 +45,7 @@ pub produce-within-spec : {M : Type 1} → statement M
 produce-within-spec =
     tie.close
     (tie.spec
-    points-requires
+    power-requires
     refusal-requires
     returns
     entries-below-requires

@@ -4,8 +4,8 @@ use Rattle.producer.proofs.Leaving.{shifts-shares, sets-low, sets-add, 
 use Rattle.producer.proofs.share.Statement.{statement}
 use Rattle.producer.proofs.share.Tie as tie
 
-points-requires : tie.Need-points-requires
-points-requires c κs = search shifts-shares
+power-requires : tie.Need-power-requires
+power-requires c κs = search shifts-shares
 
 rules-requires : tie.Need-rules-requires
 rules-requires c κs = search needs
@@ -44,7 +44,7 @@ pub share-spec : {M : Type 1} → statement M
 share-spec =
     tie.close
     (tie.spec
-    points-requires
+    power-requires
     rules-requires
     sub-rule
     sub-rule-2

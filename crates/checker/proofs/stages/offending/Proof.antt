@@ -5,8 +5,7 @@ use native.Mathlib.Omega.{arith}
 use borrow.Author.Needs.{needs}
 use Rattle.threshold.proofs.Dependence.{own-place}
 use Rattle.checker.proofs.Agreeing.{few-wide}
-use Rattle.checker.proofs.Judging.{NoTerm, NoList, NoComponent, no-term-yet, no-list-yet, no-component-yet, no-term-more, no-list-more, no-component-more, offending-found, offending-none}
-use Rattle.checker.proofs.Judging.{few-shares, place-fits, row-fits}
+use Rattle.checker.proofs.Judging.{NoTerm, NoList, NoComponent, no-term-yet, no-list-yet, no-component-yet, no-term-more, no-list-more, no-component-more, offending-found, offending-none, few-shares, place-fits, row-fits}
 use Rattle.checker.proofs.stages.offending.Statement.{statement}
 use Rattle.checker.proofs.stages.offending.Tie as tie
 

@@ -4,7 +4,7 @@ use mathlib.Core.Bool.{true}
 use Prim.Native.Nat.{_-_, _≤_}
 use native.Mathlib.Omega.{arith}
 use borrow.Author.Needs.{needs}
-use Rattle.anf.specs.Tests.{all}
+use Rattle.finite.specs.Tests.{all}
 use Rattle.design.specs.Reading.{entryFits}
 use Rattle.design.proofs.Faults.{no-entry, entry-beyond, entry-more, entries-done}
 use Rattle.design.proofs.reader.entries_fit.Statement.{statement}

@@ -4,7 +4,7 @@ use mathlib.Core.Bool.{true}
 use Prim.Native.Nat.{_-_, _≤_}
 use native.Mathlib.Omega.{arith}
 use borrow.Author.Needs.{needs}
-use Rattle.anf.specs.Tests.{all}
+use Rattle.finite.specs.Tests.{all}
 use Rattle.design.specs.Reading.{previous, termFits}
 use Rattle.design.proofs.Faults.{no-term, no-latest, term-no-rise, term-beyond, term-more, latest-more, terms-done}
 use Rattle.design.proofs.reader.terms_fit.Statement.{statement}

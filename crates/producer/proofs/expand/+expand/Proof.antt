@@ -6,14 +6,13 @@ use lib.ListN.{length}
 use borrow.Fn.Kinds.{In}
 use borrow.Fn.PlainCycle.{Measures, is, falls, and}
 use Rattle.producer.specs.Expanding.{joined, Grown}
-use Rattle.producer.proofs.Stepping.{chosen-low, room-end, ends, variable-low, skip-asks, skips}
-use Rattle.producer.proofs.Stepping.{sharing, grown-none, row-fits, place-fits, place-low, share-low, share-next, share-asks, shares-more, shares-all}
+use Rattle.producer.proofs.Stepping.{chosen-low, room-end, ends, variable-low, skip-asks, skips, sharing, grown-none, row-fits, place-fits, place-low, share-low, share-next, share-asks, shares-more, shares-all}
 use Rattle.producer.proofs.expand.expand.Reads as expand
 use Rattle.producer.proofs.expand.expand.Kinds as expand-kinds
-use Rattle.producer.proofs.expand.+expand.Lts-expand as expand-lts
 use Rattle.producer.proofs.expand.emit.Reads as emit-reads
 use Rattle.producer.proofs.expand.has.Reads as has-reads
 use Rattle.producer.proofs.expand.with.Reads as with-reads
+use Rattle.producer.proofs.expand.+expand.Lts-expand as expand-lts
 use Rattle.producer.proofs.expand.+expand.{statement}
 use Rattle.producer.proofs.expand.+expand.Tie.{close}
 

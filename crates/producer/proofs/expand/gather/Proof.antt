@@ -14,8 +14,8 @@ Inv-loop rule m s words to b list₀ n count₀ u₀ list count u = (u ≤ n) ×
 abbrev μ-loop : tie.MeasureT-loop
 μ-loop rule m s words to b list₀ n count₀ u₀ list count u = n - u
 
-points-requires : tie.Need-points-requires Inv-loop μ-loop
-points-requires c κs = search width-shifts
+power-requires : tie.Need-power-requires Inv-loop μ-loop
+power-requires c κs = search width-shifts
 
 loop-holds : tie.Need-loop-holds Inv-loop μ-loop
 loop-holds c = (omega arith, refl, search grown-none)
@@ -50,7 +50,7 @@ gather-spec =
     (tie.spec
     Inv-loop
     μ-loop
-    points-requires
+    power-requires
     loop-holds
     shared-slice-read-add-term
     cast-add-term

@@ -1,9 +1,9 @@
 -- Bit i, shifted down, is the lowest.
 use mathlib.Core.Path.{refl}
-use Rattle.producer.specs.Direct.{has}
-use borrow.Author.Needs.{needs}
+use Rattle.finite.specs.Sets.{has}
 use Rattle.producer.proofs.expand.has.Statement.{statement}
 use Rattle.producer.proofs.expand.has.Tie as tie
+use borrow.Author.Needs.{needs}
 
 cast-result : tie.Need-cast-result
 cast-result c = search needs

@@ -1,7 +1,8 @@
 -- The tables of the rule are computed from the rule's definition.
 use mathlib.Core.Path.{refl}
-use Rattle.anf.specs.Tests.{any, first, tabulate}
-use Rattle.producer.specs.Direct.{has, componentFor}
+use Rattle.finite.specs.Tests.{any, first, tabulate}
+use Rattle.finite.specs.Sets.{has}
+use Rattle.producer.specs.Direct.{componentFor}
 use Rattle.producer.specs.Expanding.{ruleTables}
 use Rattle.producer.proofs.expand.rules.Statement.{statement}
 use Rattle.producer.proofs.expand.rules.Tie as tie

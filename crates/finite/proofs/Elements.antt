@@ -1,23 +1,22 @@
 -- The elements of a set that is a number: numbers with the same bits are equal, and subsets, xor, shares and blocks are told by bits.
 use mathlib.Core.Path.{_≡_, refl, sym, ap, ap₂, _∙_}
-use mathlib.Core.Logic.{_⊎_, ⊎-elim, _≢_}
-use mathlib.Core.Bool.{Bool, true, false, not, _&&_}
+use mathlib.Core.Logic.{⊎-elim, _≢_}
+use mathlib.Core.Bool.{Bool, true, false, not, _&&_, _||_}
 use Prim.Native.Nat.{ℕ, zero, suc, _+_, _-_, _*_, _/_, _%_, _^_, _<_}
-use native.Mathlib.Nat.{mod-lt, div-one, mul-comm, pow-suc, div-div-eq-div-mul, mod-eq-of-lt, zero-div, div-lt-iff-lt-mul, mul-le-mul-right}
+use native.Mathlib.Nat.{mod-lt, div-one, mul-comm, pow-suc, div-div-eq-div-mul, mod-eq-of-lt, zero-div, div-lt-iff-lt-mul, div-eq-of-lt}
 use native.Mathlib.Omega.{arith}
 use lib.Arith.{lt-one}
-use lib.Pow.{pow-pos, shr-shr, field, high, low, split, mod-mod-pow}
+use lib.Pow.{pow-pos, field, high, low, split, mod-mod-pow, pow-lt, pow-add, shl-shr}
 use lib.Dec.{eqb}
-use lib.Bits.{bitAnd, bitXor, and-mod, and-block}
+use lib.Bits.{bitAnd, bitXor, and-mod, and-block, bitOr, or-shr, or-mod}
 use lib.Count.{ones, ones-cat}
 use borrow.Author.Tests.{eqb-true, eq-eqb}
-use Rattle.anf.specs.Tests.{implies, all, any, bit, count, total}
-use Rattle.anf.specs.NormalForm.{subset}
-use Rattle.anf.proofs.Testing.{bool-ext, true-or-false, and-intro, and-left, and-right, implies-at, implies-intro, all-at, all-intro, any-none}
-use Rattle.anf.proofs.Xor.{bit-cases, digits-eq, xor-bit, and-bit}
-use Rattle.anf.proofs.Subsets.{subset-eq, eq-subset, subset-iff}
-use Rattle.threshold.specs.Sharing.{share}
-use Rattle.producer.specs.Direct.{has}
+use native.Mathlib.Decide.{decLt}
+use Rattle.finite.specs.Tests.{implies, all, any, bit, count, total}
+use Rattle.finite.specs.Sets.{subset, has}
+use Rattle.finite.proofs.Testing.{bool-ext, true-or-false, and-intro, and-left, and-right, implies-at, implies-intro, all-at, all-intro, any-none, below, or-right}
+use Rattle.finite.proofs.Xor.{bit-cases, digits-eq, xor-bit, and-bit}
+use Rattle.finite.proofs.Subsets.{subset-eq, eq-subset, subset-iff}
 
 -- ---- bits
 
@@ -137,28 +136,88 @@ has-low k a r i l h =
         sym (ap (λ (y : ℕ). x % 2 ^ y / 2 ^ i % 2) d ∙ ap (λ (y : ℕ). y % 2) (field x (k - suc i + 1) i)
         ∙ mod-mod-pow (x / 2 ^ i) (k - suc i) 1)
 
-pub share-lt : (m j p : ℕ) → share m j p < 2 ^ m
-unfolding share
-share-lt m j p = mod-lt (p / 2 ^ (m * j)) (pow-pos m)
+-- ---- one element more
 
--- bit i of share j
-pub share-bit : (m j p i : ℕ) → i < m → share m j p / 2 ^ i % 2 ≡ p / 2 ^ (j * m + i) % 2
-unfolding share
-share-bit m j p i h =
-    let d : m ≡ m - suc i + 1 + i = omega arith in
-    ap (λ (y : ℕ). p / 2 ^ (m * j) % 2 ^ y / 2 ^ i % 2) d
-    ∙ ap (λ (y : ℕ). y % 2) (field (p / 2 ^ (m * j)) (m - suc i + 1) i)
-    ∙ mod-mod-pow (p / 2 ^ (m * j) / 2 ^ i) (m - suc i) 1
-    ∙ ap (λ (y : ℕ). y % 2) (shr-shr p (m * j) i ∙ ap (λ (y : ℕ). p / 2 ^ (y + i)) (mul-comm m j))
+or-bit : (a b i : ℕ) → bitOr a b / 2 ^ i % 2 ≡ bitOr (a / 2 ^ i % 2) (b / 2 ^ i % 2)
+or-bit a b i = ap (λ (x : ℕ). x % 2) (or-shr a b i) ∙ or-mod (a / 2 ^ i) (b / 2 ^ i) 1
 
-pub share-has : (m j p i : ℕ) → i < m → has (share m j p) i ≡ has p (j * m + i)
-share-has m j p i h = has-congr (share m j p) p i (j * m + i) (share-bit m j p i h)
+pub has-or : (a b i : ℕ) → has (bitOr a b) i ≡ (has a i || has b i)
+unfolding has
+has-or a b i =
+    ap (λ (r : ℕ). eqb r 1) (or-bit a b i)
+    ∙ bit-cases (λ x. eqb (bitOr x (b / 2 ^ i % 2)) 1 ≡ (eqb x 1 || eqb (b / 2 ^ i % 2) 1))
+    (bit-cases (λ y. eqb (bitOr 0 y) 1 ≡ eqb y 1) refl refl (b / 2 ^ i))
+    (bit-cases (λ y. eqb (bitOr 1 y) 1 ≡ true) refl refl (b / 2 ^ i))
+    (a / 2 ^ i)
 
--- the place of a bit of a share is within the sharing
-pub place-lt : (m s j i : ℕ) → j < s → i < m → j * m + i < m * s
-place-lt m s j i l h = omega (arith, mul-le-mul-right m l, mul-comm m s)
+pub has-power : (k : ℕ) → has (2 ^ k) k ≡ true
+unfolding has
+has-power k =
+    let e : 2 ^ k ≡ 1 * 2 ^ k + 0 = omega arith in
+    ap (λ (x : ℕ). eqb (x / 2 ^ k % 2) 1) e ∙ ap (λ (x : ℕ). eqb (x % 2) 1) (high 1 k (pow-pos k))
+
+pub has-power-other : (k i : ℕ) → i ≢ k → has (2 ^ k) i ≡ false
+unfolding has
+has-power-other k i n = go (decLt k i)
+  where
+    go : Dec (k < i) → eqb (2 ^ k / 2 ^ i % 2) 1 ≡ false
+    go (yes l) = ap (λ (x : ℕ). eqb (x % 2) 1) (div-eq-of-lt (pow-lt l))
+    go (no l) =
+        let d : k ≡ suc (k - suc i) + i = omega arith in
+        ap (λ (x : ℕ). eqb (2 ^ x / 2 ^ i % 2) 1) d
+        ∙ ap (λ (x : ℕ). eqb (x / 2 ^ i % 2) 1) (pow-add 2 (suc (k - suc i)) i)
+        ∙ ap (λ (x : ℕ). eqb (x % 2) 1) (shl-shr (2 ^ suc (k - suc i)) i)
+        ∙ ap (λ (x : ℕ). eqb x 1) (even (k - suc i))
+      where
+        even : (e : ℕ) → 2 ^ suc e % 2 ≡ 0
+        even e = omega arith
+
+module _ (p k : ℕ) where
+  pub has-with : has (bitOr p (2 ^ k)) k ≡ true
+  has-with = has-or p (2 ^ k) k ∙ or-right (has p k) (has (2 ^ k) k) (has-power k)
+
+  pub has-with-other : (i : ℕ) → i ≢ k → has (bitOr p (2 ^ k)) i ≡ has p i
+  has-with-other i n = has-or p (2 ^ k) i ∙ ap (λ (b : Bool). has p i || b) (has-power-other k i n) ∙ or-none (has p i)
+    where
+      or-none : (b : Bool) → (b || false) ≡ b
+      or-none true = refl
+      or-none false = refl
+
+-- ---- a set made of its elements
+
+module _ (q : ℕ → Bool) where
+  abbrev pub made : ℕ → ℕ
+  made n = total n (λ j. bit (q j) * 2 ^ j)
+
+  pub made-lt : (n : ℕ) → made n < 2 ^ n
+  unfolding total
+  made-lt zero = omega arith
+  made-lt (suc n) = at (q n) (made-lt n)
+    where
+      at : (b : Bool) → made n < 2 ^ n → bit b * 2 ^ n + made n < 2 ^ suc n
+      at true h = omega arith
+      at false h = omega arith
+
+  pub made-has : (n j : ℕ) → j < n → has (made n) j ≡ q j
+  unfolding total
+  made-has zero j l = absurd (omega arith)
+  made-has (suc n) j l =
+      below l
+      (λ e. ap (has (bit (q n) * 2 ^ n + made n)) e ∙ top-bit (q n) ∙ ap q (sym e))
+      (λ k. has-low n (bit (q n)) (made n) j (made-lt n) k ∙ made-has n j k)
+    where
+      top-bit : (b : Bool) → has (bit b * 2 ^ n + made n) n ≡ b
+      top-bit b = unfold has in ap (λ (x : ℕ). eqb (x % 2) 1) (high (bit b) n (made-lt n)) ∙ at b
+        where
+          at : (b : Bool) → eqb (bit b % 2) 1 ≡ b
+          at true = refl
+          at false = refl
 
 -- ---- how many elements
+
+pub ones-top : (n i : ℕ) → i < 2 ^ n → ones (2 ^ n + i) ≡ suc (ones i)
+unfolding ones
+ones-top n i h = let e : 2 ^ n + i ≡ 1 * 2 ^ n + i = omega arith in ap ones e ∙ ones-cat n 1 i h ∙ omega arith
 
 pub ones-count : (n u : ℕ) → u < 2 ^ n → ones u ≡ count n (has u)
 unfolding total ones
@@ -176,5 +235,5 @@ ones-count (suc n) u l =
 
     low-count : count n (has (u % 2 ^ n)) ≡ count n (has u)
     low-count =
-        Rattle.anf.proofs.Counting.count-congr n (has (u % 2 ^ n)) (has u)
+        Rattle.finite.proofs.Counting.count-congr n (has (u % 2 ^ n)) (has u)
         (λ i k. sym (has-low n (u / 2 ^ n) (u % 2 ^ n) i (mod-lt u (pow-pos n)) k) ∙ ap (λ (x : ℕ). has x i) (split u n))

@@ -1,16 +1,16 @@
 -- Laws of the sum f 0 ⊕ f 1 ⊕ .. ⊕ f (n - 1), each by induction on n.
 use mathlib.Core.Path.{_≡_, refl, sym, ap, ap₂, _∙_}
 use mathlib.Core.Logic.{_⊎_, inl, inr, _≢_}
-use mathlib.Core.Bool.{Bool, true, false}
-use Prim.Native.Nat.{ℕ, zero, suc, _+_, _/_, _%_, _^_, _<_}
-use native.Mathlib.Nat.{zero-div, add-zero, add-suc, eq-or-lt-of-le, not-suc-le-zero, le-of-suc-le-suc}
+use mathlib.Core.Bool.{Bool, true, false, _&&_}
+use Prim.Native.Nat.{ℕ, zero, suc, _+_, _/_, _%_, _^_, _<_, _*_}
+use native.Mathlib.Nat.{zero-div, add-zero, add-suc, eq-or-lt-of-le, not-suc-le-zero, le-of-suc-le-suc, zero-mul, suc-mul}
 use native.Mathlib.Omega.{arith}
 use native.Mathlib.Numerals.{add-one}
 use lib.Pow.{pow-pos}
 use lib.Bits.{bitAnd, bitXor, xor-zero-r, xor-lt, and-zero-r}
-use Rattle.anf.specs.Tests.{pick}
-use Rattle.anf.specs.Sums.{xorBelow}
-use Rattle.anf.proofs.Xor.{xor-swap4, xor-assoc, and-xor, xor-bit}
+use Rattle.finite.specs.Tests.{pick}
+use Rattle.finite.specs.Sums.{xorBelow}
+use Rattle.finite.proofs.Xor.{xor-swap4, xor-assoc, and-xor, xor-bit}
 
 pub xorBelow-ext : (n : ℕ) (f g : ℕ → ℕ) → ((i : ℕ) → i < n → f i ≡ g i) → xorBelow n f ≡ xorBelow n g
 unfolding xorBelow
@@ -68,6 +68,18 @@ unfolding xorBelow
 xorBelow-bit zero b f = sym (ap (λ (x : ℕ). x % 2) (zero-div (2 ^ b)))
 xorBelow-bit (suc n) b f = ap (λ (x : ℕ). bitXor x (f n / 2 ^ b % 2)) (xorBelow-bit n b f) ∙ sym (xor-bit (xorBelow n f) (f n) b)
 
+-- block by block
+pub xorBelow-blocks : (a b : ℕ) (f : ℕ → ℕ) → xorBelow (a * b) f ≡ xorBelow a (λ i. xorBelow b (λ j. f (i * b + j)))
+unfolding xorBelow
+xorBelow-blocks zero b f = rw (zero-mul b) refl
+xorBelow-blocks (suc a) b f =
+    ap (λ (x : ℕ). xorBelow x f) (suc-mul a b) ∙ xorBelow-add (a * b) b f
+    ∙ ap (λ (x : ℕ). bitXor x (xorBelow b (λ j. f (a * b + j)))) (xorBelow-blocks a b f)
+
+pub xorBelow-pick : (n : ℕ) (c : Bool) (f : ℕ → ℕ) → xorBelow n (λ t. pick c (f t) 0) ≡ pick c (xorBelow n f) 0
+xorBelow-pick n true f = refl
+xorBelow-pick n false f = xorBelow-none n (λ t. 0) (λ v l. refl)
+
 -- the first apart
 pub xorBelow-first : (n : ℕ) (f : ℕ → ℕ) → xorBelow (suc n) f ≡ bitXor (f 0) (xorBelow n (λ i. f (suc i)))
 unfolding xorBelow
@@ -111,3 +123,13 @@ pick-bit false b x = sym (ap (λ (y : ℕ). y % 2) (zero-div (2 ^ b)))
 pub pick-lt : (b : Bool) (x k : ℕ) → x < 2 ^ k → pick b x 0 < 2 ^ k
 pick-lt true x k h = h
 pick-lt false x k h = pow-pos k
+
+pub pick-both : (a b : Bool) (x : ℕ) → pick (a && b) x 0 ≡ pick a (pick b x 0) 0
+pick-both true b x = refl
+pick-both false b x = refl
+
+pub pick-swap : (a b : Bool) (x : ℕ) → pick a (pick b x 0) 0 ≡ pick b (pick a x 0) 0
+pick-swap true true x = refl
+pick-swap true false x = refl
+pick-swap false true x = refl
+pick-swap false false x = refl

@@ -1,16 +1,16 @@
 -- Laws of the tests over numbers below n, of the lowest that passes, and of tabulated lists.
 -- Assumes nothing.
-use mathlib.Core.Path.{_≡_, refl, sym, ap, ap₂, _∙_, subst}
+use mathlib.Core.Path.{_≡_, refl, sym, ap, ap₂, _∙_}
 use mathlib.Core.Logic.{_⊎_, inl, inr, ⊎-elim}
-use mathlib.Core.Bool.{Bool, true, false, _&&_, _||_, not, true≢false, false≢true}
+use mathlib.Core.Bool.{Bool, true, false, _&&_, _||_, true≢false, false≢true}
 use mathlib.Core.List.{List, [], _∷_, _++_, append-assoc}
 use Prim.Native.Nat.{ℕ, zero, suc, _+_, _≤_, _<_}
 use native.Mathlib.Nat.{le-of-suc-le-suc, not-suc-le-zero, le-refl, le-step, eq-or-lt-of-le}
 use native.Mathlib.Numerals.{add-one}
 use native.Mathlib.Omega.{arith}
-use lib.ListN.{length, getD, drop, set, length-append}
+use lib.ListN.{length, getD, drop, set}
 use lib.Seq.{set-at, drop-cons}
-use Rattle.anf.specs.Tests.{pick, implies, all, any, first, tabulate}
+use Rattle.finite.specs.Tests.{pick, implies, all, any, first, tabulate}
 
 -- ---- Bool
 
@@ -57,6 +57,10 @@ or-left false b e = absurd (false≢true e)
 pub or-right : (a b : Bool) → b ≡ true → (a || b) ≡ true
 or-right true b e = refl
 or-right false b e = e
+
+pub or-false-right : (a b : Bool) → b ≡ false → (a || b) ≡ a
+or-false-right true b e = refl
+or-false-right false b e = e
 
 pub or-false : (a b : Bool) → (a || b) ≡ false → (a ≡ false) × (b ≡ false)
 or-false true b e = absurd (true≢false e)
@@ -108,6 +112,12 @@ pub all-congr : (n : ℕ) (p q : ℕ → Bool) → ((i : ℕ) → i < n → p i 
 unfolding all
 all-congr zero p q h = refl
 all-congr (suc n) p q h = ap₂ _&&_ (all-congr n p q (λ i l. h i (le-step l))) (h n (le-refl (suc n)))
+
+pub all-and : (n : ℕ) (p q : ℕ → Bool) → all n (λ i. p i && q i) ≡ (all n p && all n q)
+all-and n p q =
+    bool-ext _ _
+    (λ e. and-intro (all-intro n p (λ i l. and-left (p i) (q i) (all-at n _ e i l))) (all-intro n q (λ i l. and-right (p i) (q i) (all-at n _ e i l))))
+    (λ e. all-intro n _ (λ i l. and-intro (all-at n p (and-left (all n p) (all n q) e) i l) (all-at n q (and-right (all n p) (all n q) e) i l)))
 
 -- one more number, as code counts
 pub all-step : (n : ℕ) (p : ℕ → Bool) → all (n + 1) p ≡ (all n p && p n)
@@ -173,6 +183,13 @@ first-is (suc n) p e = go (first-is n p) (any n p) refl (p n) refl e
     go ih true ea b eb k = rw ea (let r = ih ea in (le-step (r .0), r .1, r .2))
     go ih false ea true eb k = rw (ea, eb) (le-refl (suc n), eb, ea)
     go ih false ea false eb k = absurd (false≢true k)
+
+-- the lowest place that passes a test, where there is one
+pub first-some : (n : ℕ) (p : ℕ → Bool) → first n p < n → any n p ≡ true
+first-some n p l = ⊎-elim (λ e. e) (λ e. absurd (omega (arith, first-none n p e))) (true-or-false (any n p))
+
+pub first-past : (n : ℕ) (p : ℕ → Bool) → n ≤ first n p → any n p ≡ false
+first-past n p l = not-true-false _ (λ a. omega (arith, first-is n p a))
 
 -- ---- tabulated lists
 

@@ -8,7 +8,7 @@ use native.Mathlib.Decide.{decLt}
 use native.Mathlib.Omega.{arith}
 use lib.Bits.{bitAnd, bitXor, and-block, xor-block, and-self, and-le-r}
 use borrow.Author.Tests.{eqb-true, eqb-false, eq-eqb, ne-eqb}
-use Rattle.anf.specs.NormalForm.{subset}
+use Rattle.finite.specs.Sets.{subset}
 
 pub subset-eq : (v u : ℕ) → subset v u ≡ true → bitAnd v u ≡ v
 unfolding subset
@@ -74,6 +74,11 @@ module _ (n i j : ℕ) (hi : i < 2 ^ n) (hj : j < 2 ^ n) where
       let one : (k : ℕ) → 2 ^ n + k ≡ 1 * 2 ^ n + k = omega arith in
       let none : (k : ℕ) → k ≡ 0 * 2 ^ n + k = omega arith in
       ap₂ bitXor (none i) (one j) ∙ xor-block n 0 1 i j hi hj ∙ sym (one (bitXor i j))
+
+pub xor-top-top : (n i j : ℕ) → i < 2 ^ n → j < 2 ^ n → bitXor (2 ^ n + i) (2 ^ n + j) ≡ bitXor i j
+xor-top-top n i j li lj =
+    let one : (k : ℕ) → 2 ^ n + k ≡ 1 * 2 ^ n + k = omega arith in
+    ap₂ bitXor (one i) (one j) ∙ lib.Bits.xor-block n 1 1 i j li lj ∙ omega arith
 
 module _ (n i j : ℕ) (hi : i < 2 ^ n) (hj : j < 2 ^ n) where
   pub subset-top-top : subset (2 ^ n + i) (2 ^ n + j) ≡ subset i j

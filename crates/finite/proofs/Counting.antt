@@ -1,15 +1,16 @@
 -- Laws of `total` and `count`, and the pigeonhole: an injective map of the numbers below n into themselves takes each value exactly once.
 -- Assumes nothing.
-use mathlib.Core.Path.{_≡_, refl, sym, ap, ap₂, _∙_, subst}
-use mathlib.Core.Bool.{Bool, true, false, _&&_, _||_, not, true≢false, false≢true}
-use mathlib.Core.Logic.{_⊎_, inl, inr, ⊎-elim}
-use Prim.Native.Nat.{ℕ, zero, suc, _+_, _*_, _≤_, _<_, suc-le-suc, zero-le}
-use native.Mathlib.Nat.{le-of-suc-le-suc, not-suc-le-zero, le-refl, le-step, eq-or-lt-of-le, lt-irrefl, suc-inj, le-of-lt, le-antisymm, lt-of-not-le, mul-add, mul-one}
+use mathlib.Core.Path.{_≡_, refl, sym, ap, ap₂, _∙_}
+use mathlib.Core.Bool.{Bool, true, false, _&&_, _||_}
+use mathlib.Core.Logic.{⊎-elim}
+use Prim.Native.Nat.{ℕ, zero, suc, _+_, _*_, _≤_, _<_, zero-le, _^_}
+use native.Mathlib.Nat.{le-of-suc-le-suc, not-suc-le-zero, le-refl, le-step, le-antisymm, lt-of-not-le, mul-add, mul-one, add-zero, zero-mul, mul-zero, add-suc, suc-mul, add-comm}
 use native.Mathlib.Omega.{arith}
 use lib.Dec.{eqb}
 use borrow.Author.Tests.{eqb-true, eq-eqb, ne-eqb}
-use Rattle.anf.specs.Tests.{total, bit, count, all, any}
-use Rattle.anf.proofs.Testing.{true-or-not, below}
+use Rattle.finite.specs.Tests.{total, bit, count, any}
+use Rattle.finite.specs.Maps.{Injective}
+use Rattle.finite.proofs.Testing.{true-or-not, below}
 
 -- ---- totals
 
@@ -58,6 +59,37 @@ total-full (suc n) f h e k l =
     (λ q. ap f q ∙ omega arith)
     (λ c. total-full n f (λ i d. h i (le-step d)) (omega arith) k c)
 
+pub total-range : (n k : ℕ) (f : ℕ → ℕ) → total (n + k) f ≡ total n f + total k (λ i. f (n + i))
+unfolding total
+total-range n zero f = rw (add-zero n) (omega arith)
+total-range n (suc k) f = rw (add-suc n k) (omega (arith, total-range n k f))
+
+pub total-double : (n : ℕ) (f : ℕ → ℕ) → total (2 ^ suc n) f ≡ total (2 ^ n) f + total (2 ^ n) (λ i. f (2 ^ n + i))
+total-double n f = let e : 2 ^ suc n ≡ 2 ^ n + 2 ^ n = omega arith in rw e (total-range (2 ^ n) (2 ^ n) f)
+
+pub total-blocks : (a b : ℕ) (f : ℕ → ℕ) → total (a * b) f ≡ total a (λ i. total b (λ j. f (i * b + j)))
+unfolding total
+total-blocks zero b f = rw (zero-mul b) refl
+total-blocks (suc a) b f =
+    ap (λ (x : ℕ). total x f) (suc-mul a b) ∙ total-range (a * b) b f
+    ∙ ap (λ (x : ℕ). x + total b (λ j. f (a * b + j))) (total-blocks a b f) ∙ add-comm _ _
+
+pub total-swap : (n k : ℕ) (f : ℕ → ℕ → ℕ) → total n (λ i. total k (f i)) ≡ total k (λ j. total n (λ i. f i j))
+unfolding total
+total-swap zero k f = sym (total-zero k (λ j. 0) (λ j l. refl))
+total-swap (suc n) k f = ap (λ (x : ℕ). total k (f n) + x) (total-swap n k f) ∙ sym (total-add k (f n) (λ j. total n (λ i. f i j)))
+
+pub total-times : (n c : ℕ) (f : ℕ → ℕ) → total n (λ i. c * f i) ≡ c * total n f
+unfolding total
+total-times zero c f = sym (mul-zero c)
+total-times (suc n) c f = ap (λ (x : ℕ). c * f n + x) (total-times n c f) ∙ sym (mul-add c (f n) (total n f))
+
+-- n ones
+pub ones-each : (n : ℕ) → total n (λ j. 1) ≡ n
+unfolding total
+ones-each zero = refl
+ones-each (suc n) = omega (arith, ones-each n)
+
 -- ---- counts. A test's answer is an equation, `p i ≡ true`.
 
 bit-le : (b : Bool) → bit b ≤ 1
@@ -70,6 +102,12 @@ bit-true e = ap bit e
 bit-not : (b : Bool) → (b ≡ true → ⊥) → bit b ≡ 0
 bit-not true h = absurd (h refl)
 bit-not false h = refl
+
+pub bit-inj : (a b : Bool) → bit a ≡ bit b → a ≡ b
+bit-inj true true e = refl
+bit-inj true false e = absurd (omega arith)
+bit-inj false true e = absurd (omega arith)
+bit-inj false false e = refl
 
 pub count-congr : (n : ℕ) (p q : ℕ → Bool) → ((i : ℕ) → i < n → p i ≡ q i) → count n p ≡ count n q
 count-congr n p q h = total-congr n _ _ (λ i l. ap bit (h i l))
@@ -133,9 +171,6 @@ by-value (suc n) m f h =
       count-one m (λ y. eqb (f n) y) (f n) (h n (le-refl (suc n))) (eq-eqb (f n) (f n) refl) (λ i l e. sym (eqb-true (f n) i e)),
       by-value n m f (λ i l. h i (le-step l)),
     )
-
-abbrev pub Injective : ℕ → (ℕ → ℕ) → Type 0
-Injective n f = (i k : ℕ) → i < n → k < n → f i ≡ f k → i ≡ k
 
 module _ (n : ℕ) (f : ℕ → ℕ) (inj : Injective n f) where
   -- an injective f takes no value twice
@@ -207,3 +242,19 @@ by-part-once n k a d p h o =
 -- a count is kept when its places are renamed one to one
 pub count-renamed : (n : ℕ) (f : ℕ → ℕ) → Injective n f → ((i : ℕ) → i < n → f i < n) → (p : ℕ → Bool) → count n (λ i. p (f i)) ≡ count n p
 count-renamed n f inj into p = by-part-once n n (λ i. true) f p into (pigeonhole n f inj into)
+
+-- what passes one of several tests, counted test by test
+pub count-any : (n k : ℕ) (q : ℕ → ℕ → Bool) → count n (λ p. any k (λ u. q u p)) ≤ total k (λ u. count n (q u))
+unfolding any total
+count-any n zero q = omega (arith, total-zero n (λ i. 0) (λ i l. refl))
+count-any n (suc k) q =
+    omega (
+      arith,
+      count-any n k q,
+      total-mono n (λ p. bit (any k (λ u. q u p) || q k p)) (λ p. bit (any k (λ u. q u p)) + bit (q k p)) (λ p l. or-le (any k (λ u. q u p)) (q k p)),
+      total-add n (λ p. bit (any k (λ u. q u p))) (λ p. bit (q k p)),
+    )
+  where
+    or-le : (a b : Bool) → bit (a || b) ≤ bit a + bit b
+    or-le true b = omega arith
+    or-le false b = omega arith
