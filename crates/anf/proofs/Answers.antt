@@ -84,16 +84,16 @@ module _ (m : ℕ) (t out : List ℕ) where
 -- ---- what is accepted, and that the passages undo each other
 
 -- every test has passed
-pub record Passes (m : ℕ) (input : List ℕ) (room : ℕ) : Type 0 where
+pub record InputPasses (m : ℕ) (input : List ℕ) (room : ℕ) : Type 0 where
   pub least : 1 ≤ m
   pub most : m ≤ greatestWidth
   pub size : length input ≡ 2 ^ m
   pub below : entriesBelow input (2 ^ m) ≡ true
   pub room-enough : 2 ^ m ≤ room
 
-pub reason-passes : (m : ℕ) (input : List ℕ) (room : ℕ) → transformReason m input room ≡ 0 → Passes m input room
+pub reason-input : (m : ℕ) (input : List ℕ) (room : ℕ) → transformReason m input room ≡ 0 → InputPasses m input room
 unfolding transformReason
-reason-passes m input room e =
+reason-input m input room e =
     let p = no-fault (ltb m 1 || ltb greatestWidth m) 4 _ (omega arith) e in
     let q = no-fault (not (eqb (length input) (2 ^ m))) 3 _ (omega arith) (p .1) in
     let r = no-fault (not (entriesBelow input (2 ^ m))) 5 _ (omega arith) (q .1) in
@@ -107,9 +107,9 @@ reason-passes m input room e =
       room-enough = ltb-false room (2 ^ m) (s .0);
     }
 
-pub passes-answer : (m : ℕ) (input output : List ℕ) → Passes m input (length output)
+pub input-answer : (m : ℕ) (input output : List ℕ) → InputPasses m input (length output)
     → (transformReason m input (length output) ≡ 0) × (transformAfter m input output ≡ transformed m input ++ drop (2 ^ m) output)
-passes-answer m input output a =
+input-answer m input output a =
     let s = sumAt-all in
     let w = done m input output (a .least) (a .most) (2 ^ m) refl (a .size) true (sym (a .below)) refl (a .room-enough) (transformed m input ++ drop (2 ^ m) output)
     (ap (λ (x : List ℕ). x ++ drop (2 ^ m) output) s) in
@@ -139,12 +139,12 @@ pub transform-back : (m : ℕ) (input output back : List ℕ) → transformReaso
     → (transformReason m (take (2 ^ m) (transformAfter m input output)) (length back) ≡ 0)
     × (transformAfter m (take (2 ^ m) (transformAfter m input output)) back ≡ input ++ drop (2 ^ m) back)
 transform-back m input output back e room =
-    let a = reason-passes m input (length output) e in
+    let a = reason-input m input (length output) e in
     let c = transformed m input in
     let size : length c ≡ 2 ^ m = tabulate-length (2 ^ m) (subsetSum m (λ v. getD input v 0)) in
     let q : take (2 ^ m) (transformAfter m input output) ≡ c =
-    ap (take (2 ^ m)) (passes-answer m input output a .1) ∙ take-at c (drop (2 ^ m) output) (2 ^ m) size in
-    let w = passes-answer m c back
+    ap (take (2 ^ m)) (input-answer m input output a .1) ∙ take-at c (drop (2 ^ m) output) (2 ^ m) size in
+    let w = input-answer m c back
     (record { least = a .least; most = a .most; size = size; below = transformed-below m input (a .size) (a .below); room-enough = room }) in
     rw q (w .0, w .1 ∙ ap (λ (x : List ℕ). x ++ drop (2 ^ m) back) (transformed-back m input (a .size)))
 

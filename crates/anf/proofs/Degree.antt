@@ -5,14 +5,14 @@ use mathlib.Core.Path.{_≡_, refl, sym, ap, ap₂, _∙_}
 use mathlib.Core.Logic.{_≢_}
 use mathlib.Core.Bool.{Bool, true, false}
 use mathlib.Core.List.{List, [], _∷_}
-use Prim.Native.Nat.{ℕ, zero, suc, _+_, _-_, _*_, _^_, _≤_, _<_, max}
+use Prim.Native.Nat.{ℕ, zero, suc, _+_, _-_, _^_, _≤_, _<_, max}
 use native.Mathlib.Nat.{not-suc-le-zero, le-of-suc-le-suc, add-zero}
 use native.Mathlib.Numerals.{add-one}
 use native.Mathlib.Decide.{decLt}
 use native.Mathlib.Omega.{arith}
 use lib.Pow.{pow-pos}
 use lib.Dec.{eqb}
-use lib.Count.{ones, ones-cat, ones-le}
+use lib.Count.{ones, ones-le}
 use lib.Bits.{bitAnd, bitXor, xor-zero-r, xor-lt, and-zero-r}
 use lib.ListN.{length, set, getD}
 use borrow.Author.Tests.{ne-eqb, eqb-false}
@@ -193,11 +193,6 @@ unfolding largest
 largest-at zero g i l = absurd (not-suc-le-zero l)
 largest-at (suc n) g i l =
     below l (λ (e : i ≡ n). rw e (omega arith)) (λ (k : i < n). omega (arith, largest-at n g i k))
-
-pub largest-le : (n b : ℕ) (g : ℕ → ℕ) → ((i : ℕ) → i < n → g i ≤ b) → largest n g ≤ b
-unfolding largest
-largest-le zero b g h = omega arith
-largest-le (suc n) b g h = omega (arith, largest-le n b g (λ i l. h i (omega arith)), h n (omega arith))
 
 pub largest-some : (n : ℕ) (g : ℕ → ℕ) → 0 < largest n g → (i : ℕ) × (i < n) × (g i ≡ largest n g)
 unfolding largest

@@ -1,9 +1,9 @@
 -- Lists of terms. At its first term a rising list has the value 1, and below it 0; so the values tell the list, and the least term that names a
 -- variable of a group shows that the value depends on it.
 use mathlib.Core.Path.{_≡_, refl, sym, ap, _∙_}
-use mathlib.Core.Logic.{_≢_, ⊎-elim}
+use mathlib.Core.Logic.{_≢_}
 use mathlib.Core.Bool.{Bool, true, false, false≢true, not, _||_}
-use mathlib.Core.List.{List, [], _∷_, _++_, List·Memᴰ, List·Memᴰ·head, List·Memᴰ·tail, List·Memᴰ·not-nil, List·Memᴰ·cases-cons}
+use mathlib.Core.List.{List, [], _∷_, _++_, List·Memᴰ, List·Memᴰ·head, List·Memᴰ·tail}
 use Prim.Native.Nat.{ℕ, zero, suc, _+_, _^_, _≤_, _<_}
 use native.Mathlib.Nat.{not-suc-le-zero, le-of-suc-le-suc}
 use native.Mathlib.Numerals.{add-one}
@@ -12,10 +12,9 @@ use native.Mathlib.Omega.{arith}
 use lib.Dec.{eqb}
 use lib.ListN.{length, getD}
 use lib.Bits.{bitAnd, bitXor, xor-zero-r, xor-lt, and-comm, and-self, xor-comm, xor-add-and}
-use borrow.Author.Tests.{eqb-true, eqb-false, eq-eqb, ne-eqb, ltb-true, lt-ltb}
+use borrow.Author.Tests.{eqb-true, eqb-false, eq-eqb, ltb-true, lt-ltb}
 use Rattle.finite.specs.Tests.{pick}
 use Rattle.finite.specs.Sets.{subset}
-use Rattle.finite.proofs.Testing.{or-left, or-right}
 use Rattle.finite.proofs.Xor.{xor-assoc, xor-left-comm, xor-left-cancel, xor-ring, and-assoc, and-xor, xor-and}
 use Rattle.finite.proofs.Sums.{pick-lt}
 use Rattle.finite.proofs.Subsets.{subset-self, subset-gt, subset-iff}
@@ -144,7 +143,8 @@ unfolding valueAt names
 names-flip group lo hi [] r h = absurd (false≢true h)
 names-flip group lo hi (t ∷ l) r h = go (names-flip group (suc t) hi l (r .2)) (eqb (bitAnd t group) 0) refl h
   where
-    go : (names group l ≡ true → (x : ℕ) × (x < hi) × (valueAt l x ≡ bitXor 1 (valueAt l (clear x group)))) → (b : Bool) → eqb (bitAnd t group) 0 ≡ b → (not b || names group l) ≡ true
+    go : (names group l ≡ true → (x : ℕ) × (x < hi) × (valueAt l x ≡ bitXor 1 (valueAt l (clear x group))))
+        → (b : Bool) → eqb (bitAnd t group) 0 ≡ b → (not b || names group l) ≡ true
         → (x : ℕ) × (x < hi) × (valueAt (t ∷ l) x ≡ bitXor 1 (valueAt (t ∷ l) (clear x group)))
     go ih true e k =
         let w = ih k in
@@ -190,15 +190,6 @@ pub names-exactly : (n group : ℕ) (l : List ℕ) → TermList n l
 names-exactly n group l t = (names-depends n group l t, depends-names n group l)
 
 -- ---- what a list names, by its members
-
-pub names-at : (group : ℕ) (l : List ℕ) (t : ℕ) → List·Memᴰ t l → bitAnd t group ≢ 0 → names group l ≡ true
-unfolding names
-names-at group [] t h ne = absurd (List·Memᴰ·not-nil h)
-names-at group (a ∷ l) t h ne =
-    ⊎-elim
-    (λ (e : t ≡ a). or-left (not (eqb (bitAnd a group) 0)) (names group l) (rw (ne-eqb (bitAnd a group) 0 (rw e at ne)) refl))
-    (λ (k : List·Memᴰ t l). or-right (not (eqb (bitAnd a group) 0)) (names group l) (names-at group l t k ne))
-    (List·Memᴰ·cases-cons h)
 
 pub names-none : (group : ℕ) (l : List ℕ) → ((t : ℕ) → List·Memᴰ t l → bitAnd t group ≡ 0) → names group l ≡ false
 unfolding names

@@ -10,7 +10,7 @@ use Rattle.finite.specs.Tests.{pick}
 use Rattle.finite.specs.Sums.{xorBelow}
 use Rattle.finite.specs.Sets.{subset}
 use Rattle.finite.proofs.Xor.{xor-cancel}
-use Rattle.finite.proofs.Sums.{xorBelow-ext, xorBelow-xor, xorBelow-none, xorBelow-double, xorBelow-lt, xorBelow-and, xorBelow-bit, pick-xor, pick-zero, pick-and, pick-bit, pick-lt}
+use Rattle.finite.proofs.Sums.{xorBelow-ext, xorBelow-xor, xorBelow-none, xorBelow-double, xorBelow-lt, xorBelow-bit, pick-xor, pick-zero, pick-bit, pick-lt}
 use Rattle.finite.proofs.Subsets.{subset-self, subset-top-top, subset-low-top, subset-top-low, Top, low, top, top-cases, and-top-top, and-top-low, and-low-top, xor-top-low, xor-low-top}
 use Rattle.anf.specs.NormalForm.{subsetSum}
 
@@ -114,10 +114,6 @@ unfolding subsetSum
 subsetSum-lt n k u f h = xorBelow-lt (2 ^ n) k (λ v. pick (subset v u) (f v) 0) (λ v l. pick-lt (subset v u) (f v) k (h v l))
 
 -- ---- entry bits are treated side by side
-
-pub subsetSum-and : (n u m : ℕ) (f : ℕ → ℕ) → subsetSum n (λ v. bitAnd m (f v)) u ≡ bitAnd m (subsetSum n f u)
-unfolding subsetSum
-subsetSum-and n u m f = xorBelow-ext _ _ _ (λ v l. pick-and (subset v u) m (f v)) ∙ xorBelow-and _ m _
 
 pub subsetSum-bit : (n u b : ℕ) (f : ℕ → ℕ) → subsetSum n (λ v. f v / 2 ^ b % 2) u ≡ subsetSum n f u / 2 ^ b % 2
 unfolding subsetSum

@@ -1,4 +1,4 @@
--- The bench rows of normal form: a table, and its coefficient words.
+-- "Bench designs", the rows of normal form: a table, and its coefficient words.
 use Prim.Native.Nat.{ℕ}
 use mathlib.Core.Path.{_≡_}
 use mathlib.Core.List.{List, [], _∷_}
@@ -6,24 +6,24 @@ use lib.ListN.{length}
 use Rattle.anf.specs.Transform.{transformReason, transformAfter}
 
 -- m variables, the input, the output before and afterwards
-pub record Row : Type 0 where
+pub record TransformRow : Type 0 where
   pub m : ℕ
   pub input : List ℕ
   pub output : List ℕ
   pub after : List ℕ
 
 -- the operation accepts, and leaves what the row says
-pub record Passes (r : Row) : Type 0 where
+pub record Passes (r : TransformRow) : Type 0 where
   pub reason : transformReason (r .m) (r .input) (length (r .output)) ≡ 0
   pub leaves : transformAfter (r .m) (r .input) (r .output) ≡ r .after
 
 -- every row passes
-abbrev pub AllPass : List Row → Type 0
+abbrev pub AllPass : List TransformRow → Type 0
 AllPass [] = Unit
 AllPass (r ∷ rs) = Passes r × AllPass rs
 
 -- 0 1 2 3 4 5 7 6 has coefficients 0 1 2 0 4 0 1 0, and they have that table. A ninth byte, 99, is not written.
-abbrev pub rows : List Row
+abbrev pub rows : List TransformRow
 rows =
     record {
       m = 3;

@@ -1,4 +1,4 @@
--- Normal form: the sum over subsets, and the degree. A set of variables is a number, variable b is its bit b.
+-- "Normal form": the sum over subsets, and the degree. A set of variables is a number, variable b is its bit b.
 use Prim.Native.Nat.{ℕ, zero, suc, _^_, max}
 use lib.Dec.{eqb}
 use lib.Count.{ones}

@@ -1,4 +1,4 @@
--- Terms and lists of terms. A term is the set of its variables, and is 1 at a point that has them all.
+-- "Normal form": terms, lists of terms and their order. A term is the set of its variables, and is 1 at a point that has them all.
 use Prim.Native.Nat.{ℕ, zero, suc, _+_, _^_, _<_}
 use mathlib.Core.Path.{_≡_}
 use mathlib.Core.Logic.{_≢_}

@@ -92,10 +92,6 @@ ones-each (suc n) = omega (arith, ones-each n)
 
 -- ---- counts. A test's answer is an equation, `p i ≡ true`.
 
-bit-le : (b : Bool) → bit b ≤ 1
-bit-le true = le-refl 1
-bit-le false = zero-le
-
 bit-true : {b : Bool} → b ≡ true → bit b ≡ 1
 bit-true e = ap bit e
 
@@ -195,14 +191,6 @@ module _ (n : ℕ) (f : ℕ → ℕ) (inj : Injective n f) where
   onto into y l =
       let r = count-some n (λ i. eqb (f i) y) (omega (arith, pigeonhole into y l)) in
       (r .0, r .1, eqb-true (f (r .0)) y (r .2))
-
--- a count is kept when its places are renamed one to one
-pub count-image : (n : ℕ) (f : ℕ → ℕ) → Injective n f → ((i : ℕ) → i < n → f i < n) → (p : ℕ → Bool) → count n p ≡ 1 → count n (λ i. p (f i)) ≡ 1
-count-image n f inj into p c =
-    let t = count-some n p (omega arith) in
-    let k = onto n f inj into (t .0) (t .1) in
-    count-one n (λ i. p (f i)) (k .0) (k .1) (ap p (k .2) ∙ t .2)
-    (λ i l e. inj i (k .0) l (k .1) (count-unique n p c (f i) (f (k .0)) (into i l) (into (k .0) (k .1)) e (ap p (k .2) ∙ t .2)))
 
 -- the places that pass a, counted by what d makes of them
 pub by-part : (n k : ℕ) (a : ℕ → Bool) (d : ℕ → ℕ) (p : ℕ → Bool) → ((i : ℕ) → i < n → d i < k)

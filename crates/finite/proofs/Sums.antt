@@ -7,10 +7,10 @@ use native.Mathlib.Nat.{zero-div, add-zero, add-suc, eq-or-lt-of-le, not-suc-le-
 use native.Mathlib.Omega.{arith}
 use native.Mathlib.Numerals.{add-one}
 use lib.Pow.{pow-pos}
-use lib.Bits.{bitAnd, bitXor, xor-zero-r, xor-lt, and-zero-r}
+use lib.Bits.{bitXor, xor-zero-r, xor-lt}
 use Rattle.finite.specs.Tests.{pick}
 use Rattle.finite.specs.Sums.{xorBelow}
-use Rattle.finite.proofs.Xor.{xor-swap4, xor-assoc, and-xor, xor-bit}
+use Rattle.finite.proofs.Xor.{xor-swap4, xor-assoc, xor-bit}
 
 pub xorBelow-ext : (n : ℕ) (f g : ℕ → ℕ) → ((i : ℕ) → i < n → f i ≡ g i) → xorBelow n f ≡ xorBelow n g
 unfolding xorBelow
@@ -57,11 +57,6 @@ unfolding xorBelow
 xorBelow-lt zero k f h = pow-pos k
 xorBelow-lt (suc n) k f h = xor-lt k (xorBelow n f) (f n) (xorBelow-lt n k f (λ i l. h i (omega arith))) (h n (omega arith))
 
-pub xorBelow-and : (n m : ℕ) (f : ℕ → ℕ) → xorBelow n (λ i. bitAnd m (f i)) ≡ bitAnd m (xorBelow n f)
-unfolding xorBelow
-xorBelow-and zero m f = sym (and-zero-r m)
-xorBelow-and (suc n) m f = ap (λ (x : ℕ). bitXor x (bitAnd m (f n))) (xorBelow-and n m f) ∙ sym (and-xor m (xorBelow n f) (f n))
-
 -- bit b of a sum is the sum of the bits
 pub xorBelow-bit : (n b : ℕ) (f : ℕ → ℕ) → xorBelow n (λ i. f i / 2 ^ b % 2) ≡ xorBelow n f / 2 ^ b % 2
 unfolding xorBelow
@@ -86,10 +81,6 @@ unfolding xorBelow
 xorBelow-first zero f = sym (xor-zero-r (f 0))
 xorBelow-first (suc n) f = ap (λ (x : ℕ). bitXor x (f (suc n))) (xorBelow-first n f) ∙ xor-assoc (f 0) (xorBelow n (λ i. f (suc i))) (f (suc n))
 
-pub xorBelow-zero : (f : ℕ → ℕ) → xorBelow 0 f ≡ 0
-unfolding xorBelow
-xorBelow-zero f = refl
-
 -- one more number, as code counts
 pub xorBelow-more : (n : ℕ) (f : ℕ → ℕ) → xorBelow (n + 1) f ≡ bitXor (xorBelow n f) (f n)
 unfolding xorBelow
@@ -98,9 +89,6 @@ xorBelow-more n f = rw add-one refl
 -- a turn of a loop that sums: with the number x, and without
 pub xorBelow-step : (n : ℕ) (f : ℕ → ℕ) (s s′ x : ℕ) → s ≡ xorBelow n f → s′ ≡ bitXor s x → f n ≡ x → s′ ≡ xorBelow (n + 1) f
 xorBelow-step n f s s′ x a b h = rw (xorBelow-more, h, ← a) b
-
-pub xorBelow-skip : (n : ℕ) (f : ℕ → ℕ) (s s′ : ℕ) → s ≡ xorBelow n f → s′ ≡ s → f n ≡ 0 → s′ ≡ xorBelow (n + 1) f
-xorBelow-skip n f s s′ a b h = rw (xorBelow-more, h, ← a, xor-zero-r) b
 
 -- ---- a number that counts where a test passes
 
@@ -111,10 +99,6 @@ pick-xor false x y = refl
 pub pick-zero : (b : Bool) → pick {A = ℕ} b 0 0 ≡ 0
 pick-zero true = refl
 pick-zero false = refl
-
-pub pick-and : (b : Bool) (m x : ℕ) → pick b (bitAnd m x) 0 ≡ bitAnd m (pick b x 0)
-pick-and true m x = refl
-pick-and false m x = sym (and-zero-r m)
 
 pub pick-bit : (t : Bool) (b x : ℕ) → pick t (x / 2 ^ b % 2) 0 ≡ pick t x 0 / 2 ^ b % 2
 pick-bit true b x = refl

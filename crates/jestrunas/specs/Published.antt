@@ -1,4 +1,4 @@
--- Reading alone, as it is published: reason, place and 0; on success all three are 0.
+-- "Reading" alone, as it is published: reason, place and 0; on success all three are 0.
 use mathlib.Core.List.{List}
 use Prim.Native.Nat.{ℕ}
 use Rattle.design.specs.Reading.{reading, reasonOf, placeOf}

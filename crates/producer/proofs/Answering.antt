@@ -18,7 +18,7 @@ use Rattle.anf.specs.Tables.{entriesBelow, entry}
 use Rattle.anf.specs.inside.Words.{wordsDegree}
 use Rattle.anf.specs.Transform.{transformAfter, transformed}
 use Rattle.anf.proofs.Passing.{passing-congr}
-use Rattle.anf.proofs.Answers.{passes-answer, transformed-degree}
+use Rattle.anf.proofs.Answers.{input-answer, transformed-degree}
 use Rattle.design.specs.Limits.{greatestTerms, broken}
 use Rattle.design.specs.Bytes.{overwrite}
 use Rattle.design.specs.Layout.{checked}
@@ -120,7 +120,7 @@ head-beyond m s e = go (broken m s 1) e
 module _ (m s : ℕ) (t out : List ℕ) (b : broken m s 1 ≡ false) (z : length t ≡ 2 ^ m) (e : entriesBelow t (2 ^ m) ≡ true) (room : 2 ^ m ≤ length out) where
   words-are : transformAfter m t out ≡ transformed m t ++ drop (2 ^ m) out
   words-are =
-      passes-answer m t out (record { least = bounds m s 1 b .m-low; most = bounds m s 1 b .m-high; size = z; below = e; room-enough = room }) .1
+      input-answer m t out (record { least = bounds m s 1 b .m-low; most = bounds m s 1 b .m-high; size = z; below = e; room-enough = room }) .1
 
   words-first : take (2 ^ m) (transformAfter m t out) ≡ transformed m t
   words-first = ap (take (2 ^ m)) words-are ∙ take-at (transformed m t) (drop (2 ^ m) out) (2 ^ m) (tabulate-length (2 ^ m) (subsetSum m (λ v. getD t v 0)))
