@@ -27,7 +27,8 @@ use Rattle.design.specs.declared.Layout.{Layout}
 use Rattle.design.proofs.Answered.{described}
 use Rattle.design.proofs.Found.{limits}
 use Rattle.design.proofs.StageLists.{Stand, stand}
-use Rattle.threshold.specs.Sharing.{sum, variables}
+use Rattle.threshold.specs.Sharing.{sum}
+use Rattle.threshold.specs.inside.Variables.{variables}
 use Rattle.threshold.specs.Stages.{output, correct}
 use Rattle.checker.specs.Parts.{Standing, agreeing}
 use Rattle.checker.specs.Marks.{Clear, zeroed, sharingsOf, marksOf}

@@ -10,13 +10,13 @@ use borrow.Author.Tests.{not-true, not-false}
 use Rattle.finite.specs.Tests.{pick, first}
 use Rattle.finite.specs.Maps.{repeats}
 use Rattle.finite.proofs.Testing.{pick-true, pick-false, first-some, first-past}
+use Rattle.anf.specs.Tables.{Permutation}
 use Rattle.design.specs.Design.{Stage, stageOf}
 use Rattle.design.specs.Reading.{meaning}
 use Rattle.design.specs.Layout.{Describes}
 use Rattle.design.specs.declared.Layout.{Layout}
 use Rattle.design.proofs.Answered.{described}
 use Rattle.threshold.specs.Stages.{output, correct, readsOwn, uniform}
-use Rattle.threshold.proofs.Stages.{Permutes}
 use Rattle.checker.specs.Verdict.{answer, firstRepeating, judgeStages}
 use Rattle.checker.specs.Marks.{sharingsOf}
 use Rattle.checker.specs.declared.Verdict.{Verdict}
@@ -57,15 +57,12 @@ module _ (f : List ℕ) (l : Layout) (d : Describes f l) (t : ℕ) (h : t < l .h
           ∙ sym (stage-reads (meaning f) t (answer 0 0 0) right (first-some (meaning f .s) (readsOwnAt (meaning f) t) (let a = described d .s in let b = lowest in omega arith)))
 
       module _ (k : l .head .s ≤ j) (tables : l .head .k ≤ firstRepeating (meaning f)) (u : Bool) (x : u ≡ repeats (sharingsOf l) (output (stageIn f t .lists))) where
-        permutes : Permutes (meaning f .m) (stageIn f t .table)
-        permutes = record {
-          into = described d .formed .stage t inside .table .below;
-          injective = none-permutes (meaning f) (meaning f .k) (none-repeats (meaning f) (let a = described d .k in omega arith)) t inside;
-        }
+        permutes : Permutation (meaning f .m) (stageIn f t .table)
+        permutes = none-permutes (meaning f) (meaning f .k) (none-repeats (meaning f) (let a = described d .k in omega arith)) t inside
 
         marks : uniform (meaning f .m) (meaning f .s) (stageIn f t) ≡ not u
         marks =
-            uniform-marks (meaning f .m) (meaning f .s) (stageIn f t) (described d .formed .stage t inside .count) permutes right
+            uniform-marks (meaning f .m) (meaning f .s) (stageIn f t) (described d .formed .stage t inside) permutes right
             ∙ ap not (sym (x ∙ ap₂ (λ (m s : ℕ). repeats (2 ^ (m * s)) (output (stageIn f t .lists))) (described d .m) (described d .s)))
 
         past-reads : stageAnswer (meaning f) t (answer 0 0 0) ≡ pick (uniform (meaning f .m) (meaning f .s) (stageIn f t)) (answer 0 0 0) (answer 14 (t + 1) 0)

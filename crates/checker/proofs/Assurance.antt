@@ -14,11 +14,12 @@ use Rattle.threshold.specs.Sharing.{sum}
 use Rattle.threshold.specs.Stages.{component}
 use Rattle.threshold.specs.Chain.{handed, chained}
 use Rattle.threshold.specs.Running.{packed}
-use Rattle.threshold.proofs.Meetings.{AllSound, met-once, outcome, test-independent, value-independent}
-use Rattle.threshold.proofs.Running.{running-success, unpacked-sum, packed-sum, packed-lt, share-fits}
+use Rattle.threshold.proofs.Meetings.{AllBijective, met-once, outcome, test-independent, value-independent}
+use Rattle.threshold.proofs.Packing.{share-fits, packed-lt, packed-sum, packed-unpacked, unpacked-packed, unpacked-length, unpacked-fits, unpacked-sum}
+use Rattle.threshold.proofs.Running.{running-success, running-sharing}
 use Rattle.checker.specs.Verdict.{verdict}
 use Rattle.checker.specs.Accepted.{Accepted}
-use Rattle.checker.specs.Assurance.{Assured, Blind}
+use Rattle.checker.specs.Assurance.{OneSharing, Assured, Blind}
 use Rattle.checker.proofs.Permutations.{chain-tables}
 use Rattle.checker.proofs.Exactly.{reason-zero}
 
@@ -29,18 +30,14 @@ module _ (f : List ℕ) (n : ℕ) (d : Design) (a : Accepted f n d) where
   within : {t : ℕ} → t < length (d .stages) → t < d .k
   within l = let e = formed .count in omega arith
 
-  -- each stage is sound: its table is a permutation, as the chain of tables is S and S is one
-  sound : AllSound (d .m) (d .s) (d .stages)
-  sound t l =
-      let g = formed .stage t (within l) in
+  -- each stage carries sharings one to one: its table is a permutation, as the chain of tables is S and S is one
+  bijective : AllBijective (d .m) (d .s) (d .stages)
+  bijective t l =
       record {
-        size = g .count;
-        permutes = record {
-          into = g .table .below;
-          injective =
-              chain-tables (2 ^ d .m) (d .stages) (λ i k. formed .stage i (within k) .table .below)
-              (λ x y lx ly e. a .box x y lx ly (sym (a .chain x lx) ∙ e ∙ a .chain y ly)) t l;
-        };
+        fits = formed .stage t (within l);
+        permutation =
+            chain-tables (2 ^ d .m) (d .stages) (λ i k. formed .stage i (within k) .table .below)
+            (λ x y lx ly e. a .box x y lx ly (sym (a .chain x lx) ∙ e ∙ a .chain y ly)) t l;
         correct = a .stages t (within l) .correct;
         uniform = a .stages t (within l) .uniform;
       }
@@ -48,27 +45,48 @@ module _ (f : List ℕ) (n : ℕ) (d : Design) (a : Accepted f n d) where
   shares-most : d .s ≤ greatestShares
   shares-most = bounds (d .m) (d .s) (d .k) (formed .limits) .s-high
 
+  same-sharings : OneSharing f d
+  same-sharings =
+      record {
+        number = λ x l h. (
+          packed-lt (d .m) (d .s) l (share-fits (d .m) (d .s) l (h .fit) shares-most),
+          packed-sum (d .m) (d .s) l shares-most (h .five) (h .fit) ∙ h .sums,
+          unpacked-packed (d .m) (d .s) l shares-most (h .five) (h .fit),
+        );
+        bytes = λ σ l. (
+          record {
+            five = unpacked-length (d .m) (d .s) σ;
+            fit = unpacked-fits (d .m) (d .s) σ shares-most;
+            sums = unpacked-sum (d .m) (d .s) σ shares-most;
+          },
+          packed-unpacked (d .m) (d .s) σ shares-most l,
+        );
+        run = running-sharing f d (a .reads) shares-most;
+      }
+
   accepted-assured : Assured f d
   accepted-assured =
       record {
         reads = a .reads;
-        met = λ x lx i j q li lj lq. met-once (d .m) (d .s) (d .stages) sound x i j q lx lj lq;
+        met = λ x lx i j q li lj lq. met-once (d .m) (d .s) (d .stages) bijective x i j q lx lj lq;
         runs = λ x lx l h. (
           running-success f l d (a .reads) (h .fit),
-          unpacked-sum (d .m) (d .s) (handed (d .stages) (d .k) (packed (d .m) (d .s) l)) shares-most
+          let n = same-sharings .number x l h in
+              unpacked-sum (d .m) (d .s) (handed (d .stages) (d .k) (packed (d .m) (d .s) l)) shares-most
               ∙ ap (λ (k : ℕ). sum (d .m) (d .s) (handed (d .stages) k (packed (d .m) (d .s) l))) (sym (formed .count))
-              ∙ outcome (d .m) (d .s) (d .stages) sound (packed (d .m) (d .s) l) (packed-lt (d .m) (d .s) l (share-fits (d .m) (d .s) l (h .fit) shares-most))
-              ∙ ap (chained (d .stages)) (packed-sum (d .m) (d .s) l shares-most (h .five) (h .fit) ∙ h .sums)
+              ∙ outcome (d .m) (d .s) (d .stages) bijective (packed (d .m) (d .s) l) (n .0)
+              ∙ ap (chained (d .stages)) (n .1)
               ∙ a .chain x lx,
         );
+        same = same-sharings;
       }
 
   accepted-blind : Blind d
   accepted-blind =
       record {
-        settings = λ x y i j lx ly li lj p. test-independent (d .m) (d .s) (d .stages) sound x y i j lx ly lj p;
+        settings = λ x y i j lx ly li lj p. test-independent (d .m) (d .s) (d .stages) bijective x y i j lx ly lj p;
         values = λ x y i j z lx ly li lj.
-            value-independent (d .m) (d .s) (d .stages) sound (component (d .m) (stageOf d i .lists) j) x y i j z (a .stages i li .nonComplete j lj) lx ly lj;
+            value-independent (d .m) (d .s) (d .stages) bijective (component (d .m) (stageOf d i .lists) j) x y i j z (a .stages i li .nonComplete j lj) lx ly lj;
       }
 
 -- The one theorem: for every file and every workspace length, from the verdict's reason 0.

@@ -18,7 +18,7 @@ use Rattle.design.specs.Layout.{Describes}
 use Rattle.design.specs.declared.Layout.{Layout}
 use Rattle.design.proofs.Answered.{described}
 use Rattle.design.proofs.TermBytes.{terms-of-bytes}
-use Rattle.threshold.specs.Sharing.{variables}
+use Rattle.threshold.specs.inside.Variables.{variables}
 use Rattle.threshold.specs.Stages.{readsOwn}
 use Rattle.threshold.proofs.Dependence.{own-place, reads-names}
 use Rattle.checker.specs.Marks.{named}

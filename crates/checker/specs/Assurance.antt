@@ -4,9 +4,8 @@ use mathlib.Core.Path.{_≡_}
 use mathlib.Core.Bool.{Bool, true, _&&_}
 use mathlib.Core.List.{List}
 use lib.Dec.{eqb}
-use lib.ListN.{length, getD}
+use lib.ListN.{length}
 use Rattle.finite.specs.Tests.{count}
-use Rattle.finite.specs.Sums.{xorBelow}
 use Rattle.anf.specs.Tables.{entry}
 use Rattle.design.specs.Limits.{greatestShares}
 use Rattle.design.specs.Design.{Design, stageOf}
@@ -14,11 +13,7 @@ use Rattle.design.specs.Reading.{means, reading}
 use Rattle.threshold.specs.Sharing.{sum, setting}
 use Rattle.threshold.specs.Stages.{component}
 use Rattle.threshold.specs.Chain.{handed, meetings}
-use Rattle.threshold.specs.Running.{packed, unpacked, sharesFit, running}
-
--- the sum of five shares
-abbrev pub fiveSum : List ℕ → ℕ
-fiveSum l = xorBelow greatestShares (λ j. getD l j 0)
+use Rattle.threshold.specs.Running.{packed, unpacked, sharesFit, fiveSum, outputShares, running}
 
 -- five bytes are a sharing of x: used shares are below 2^m, unused ones zero, and they sum to x
 pub record Shares (d : Design) (x : ℕ) (l : List ℕ) : Type 0 where
@@ -26,18 +21,26 @@ pub record Shares (d : Design) (x : ℕ) (l : List ℕ) : Type 0 where
   pub fit : sharesFit (d .m) (d .s) l ≡ true
   pub sums : fiveSum l ≡ x
 
--- the output shares that the last stage gives when the shares l are sent through, unused ones zero
-abbrev pub outputShares : Design → List ℕ → List ℕ
-outputShares d l = unpacked (d .m) (d .s) (handed (d .stages) (d .k) (packed (d .m) (d .s) l))
+-- The sharings that are counted are those that are run. Each sharing of x as five bytes is one number below 2^(m × s) that shares x, and the other way
+-- round; and a run on the bytes of a number answers 0 and the bytes of what the last stage makes of that number.
+pub record OneSharing (f : List ℕ) (d : Design) : Type 0 where
+  pub number : (x : ℕ) (l : List ℕ) → Shares d x l
+      → (packed (d .m) (d .s) l < 2 ^ (d .m * d .s)) × (sum (d .m) (d .s) (packed (d .m) (d .s) l) ≡ x) × (unpacked (d .m) (d .s) (packed (d .m) (d .s) l) ≡ l)
+  pub bytes : (σ : ℕ) → σ < 2 ^ (d .m * d .s)
+      → Shares d (sum (d .m) (d .s) σ) (unpacked (d .m) (d .s) σ) × (packed (d .m) (d .s) (unpacked (d .m) (d .s) σ) ≡ σ)
+  pub run : (σ : ℕ) → σ < 2 ^ (d .m * d .s)
+      → running f (unpacked (d .m) (d .s) σ) ≡ record { reason = 0; shares = unpacked (d .m) (d .s) (handed (d .stages) (d .k) σ) }
 
 -- The file f reads as d, and for every secret x below 2^m:
 --   for every stage i, component j and setting q of the s - 1 shares that it may read, the meetings are exactly 1;
 --   running f on any sharing of x answers 0 and the output shares of the last stage, and these sum to S(x).
+-- The meetings count sharings that are numbers and a run takes five bytes: these are the same sharings.
 pub record Assured (f : List ℕ) (d : Design) : Type 0 where
   pub reads : reading f ≡ means d
   pub met : (x : ℕ) → x < 2 ^ d .m → (i j q : ℕ) → i < d .k → j < d .s → q < 2 ^ (d .m * (d .s - 1)) → meetings (d .m) (d .s) (d .stages) x i j q ≡ 1
   pub runs : (x : ℕ) → x < 2 ^ d .m → (l : List ℕ) → Shares d x l
       → (running f l ≡ record { reason = 0; shares = outputShares d l }) × (fiveSum (outputShares d l) ≡ entry (d .box) x)
+  pub same : OneSharing f d
 
 -- how many sharings of x pass a test of what stage i is handed
 abbrev pub timesPassed : Design → ℕ → ℕ → (ℕ → Bool) → ℕ

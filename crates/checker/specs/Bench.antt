@@ -3,7 +3,7 @@ use Prim.Native.Nat.{ℕ}
 use mathlib.Core.List.{List, [], _∷_}
 use Rattle.design.specs.Encode.{encode}
 use Rattle.design.specs.Bench.{fileD}
-use Rattle.threshold.specs.Running.{refusal}
+use Rattle.threshold.specs.Running.{refusedRun}
 use Rattle.threshold.specs.declared.Ran.{Ran}
 use Rattle.checker.specs.Verdict.{answer}
 use Rattle.checker.specs.declared.Verdict.{Verdict}
@@ -68,7 +68,7 @@ runs =
     -- D run on shares 1 0 0
     record { file = fileD; shares = 1 ∷ 0 ∷ 0 ∷ 0 ∷ 0 ∷ []; answer = record { reason = 0; shares = 0 ∷ 0 ∷ 1 ∷ 0 ∷ 0 ∷ [] } } ∷
     -- share 1 equal to 2, a share after s that is not 0, no file at all
-    record { file = fileD; shares = 2 ∷ 0 ∷ 0 ∷ 0 ∷ 0 ∷ []; answer = refusal 15 } ∷
-    record { file = fileD; shares = 1 ∷ 0 ∷ 0 ∷ 1 ∷ 0 ∷ []; answer = refusal 15 } ∷
-    record { file = []; shares = 1 ∷ 0 ∷ 0 ∷ 0 ∷ 0 ∷ []; answer = refusal 1 } ∷
+    record { file = fileD; shares = 2 ∷ 0 ∷ 0 ∷ 0 ∷ 0 ∷ []; answer = refusedRun 15 } ∷
+    record { file = fileD; shares = 1 ∷ 0 ∷ 0 ∷ 1 ∷ 0 ∷ []; answer = refusedRun 15 } ∷
+    record { file = []; shares = 1 ∷ 0 ∷ 0 ∷ 0 ∷ 0 ∷ []; answer = refusedRun 1 } ∷
     []

@@ -59,6 +59,22 @@ total-full (suc n) f h e k l =
     (λ q. ap f q ∙ omega arith)
     (λ c. total-full n f (λ i d. h i (le-step d)) (omega arith) k c)
 
+-- and so are n numbers, each at least 1
+pub total-ge : (n : ℕ) (f : ℕ → ℕ) → ((i : ℕ) → i < n → 1 ≤ f i) → n ≤ total n f
+unfolding total
+total-ge zero f h = zero-le
+total-ge (suc n) f h = omega (arith, h n (le-refl (suc n)), total-ge n f (λ i l. h i (le-step l)))
+
+pub total-tight : (n : ℕ) (f : ℕ → ℕ) → ((i : ℕ) → i < n → 1 ≤ f i) → total n f ≡ n → (k : ℕ) → k < n → f k ≡ 1
+unfolding total
+total-tight zero f h e k l = absurd (not-suc-le-zero l)
+total-tight (suc n) f h e k l =
+    let b = total-ge n f (λ i c. h i (le-step c)) in
+    let t = h n (le-refl (suc n)) in
+    below l
+    (λ q. ap f q ∙ omega arith)
+    (λ c. total-tight n f (λ i d. h i (le-step d)) (omega arith) k c)
+
 pub total-range : (n k : ℕ) (f : ℕ → ℕ) → total (n + k) f ≡ total n f + total k (λ i. f (n + i))
 unfolding total
 total-range n zero f = rw (add-zero n) (omega arith)
@@ -191,6 +207,11 @@ module _ (n : ℕ) (f : ℕ → ℕ) (inj : Injective n f) where
   onto into y l =
       let r = count-some n (λ i. eqb (f i) y) (omega (arith, pigeonhole into y l)) in
       (r .0, r .1, eqb-true (f (r .0)) y (r .2))
+
+-- a map of the numbers below n into themselves that takes each value takes it exactly once
+pub onto-once : (n : ℕ) (f : ℕ → ℕ) → ((i : ℕ) → i < n → f i < n) → ((y : ℕ) → y < n → 1 ≤ count n (λ i. eqb (f i) y))
+    → (y : ℕ) → y < n → count n (λ i. eqb (f i) y) ≡ 1
+onto-once n f into some = total-tight n (λ y. count n (λ i. eqb (f i) y)) some (by-value n n f into)
 
 -- the places that pass a, counted by what d makes of them
 pub by-part : (n k : ℕ) (a : ℕ → Bool) (d : ℕ → ℕ) (p : ℕ → Bool) → ((i : ℕ) → i < n → d i < k)

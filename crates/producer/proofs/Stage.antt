@@ -26,7 +26,8 @@ use Rattle.anf.proofs.Terms.{clear-add, subset-clear}
 use Rattle.anf.proofs.Passing.{valueAt-passing, table-terms}
 use Rattle.anf.proofs.Degree.{degree-at}
 use Rattle.design.specs.Design.{TableFits}
-use Rattle.threshold.specs.Sharing.{share, sum, withShare, variables}
+use Rattle.threshold.specs.Sharing.{share, sum, withShare}
+use Rattle.threshold.specs.inside.Variables.{variables}
 use Rattle.threshold.specs.Stages.{output, component, Correct, NonComplete}
 use Rattle.threshold.proofs.Sharing.{share-lt, sum-lt, with-own, setting-with, share-bit, place-lt}
 use Rattle.threshold.proofs.Output.{output-bit, component-eq}

@@ -1,17 +1,17 @@
 -- A value carried through bijections: h moves sharings, g the values that they share. Over plain functions of numbers below N and M.
--- Where h is correct for a permutation g, uniform and injective are the same, and what is counted once after h is counted once before it.
+-- Where h is correct for a permutation g, uniform, injective and counted as in document 003 are the same, and what is counted once after h is counted
+-- once before it.
 -- Assumes nothing.
 use mathlib.Core.Path.{_≡_, refl, sym, ap, _∙_}
-use mathlib.Core.Logic.{_↔_}
 use mathlib.Core.Bool.{Bool, true, _&&_}
-use Prim.Native.Nat.{ℕ, _<_}
+use Prim.Native.Nat.{ℕ, _≤_, _<_}
 use native.Mathlib.Omega.{arith}
 use lib.Dec.{eqb}
 use borrow.Author.Tests.{eqb-true, eq-eqb}
 use Rattle.finite.specs.Tests.{count}
-use Rattle.finite.specs.Maps.{Injective}
 use Rattle.finite.proofs.Testing.{bool-ext, and-intro, and-right}
-use Rattle.finite.proofs.Counting.{count-congr, count-one, count-some, count-unique, count-renamed, pigeonhole}
+use Rattle.finite.specs.Maps.{Injective}
+use Rattle.finite.proofs.Counting.{count-congr, count-mono, count-one, count-some, count-unique, count-renamed, pigeonhole, onto, onto-once}
 use Rattle.threshold.specs.Stages.{ExactlyOne}
 
 -- ---- exactly one, and the count 1
@@ -23,12 +23,12 @@ module _ (n : ℕ) (p : ℕ → Bool) (P : ℕ → Type 0) (to : (i : ℕ) → p
       record {
         the = k .0;
         below = k .1;
-        has = to (k .0) (k .2);
+        holds = to (k .0) (k .2);
         only = λ i l h. count-unique n p e i (k .0) l (k .1) (from i h) (k .2);
       }
 
   pub exactly→count : ExactlyOne n P → count n p ≡ 1
-  exactly→count x = count-one n p (x .the) (x .below) (from (x .the) (x .has)) (λ i l e. x .only i l (to i e))
+  exactly→count x = count-one n p (x .the) (x .below) (from (x .the) (x .holds)) (λ i l e. x .only i l (to i e))
 
 -- ---- carried
 
@@ -42,6 +42,25 @@ pub record Carries (N M : ℕ) (sum h g : ℕ → ℕ) : Type 0 where
 -- each number with the sum g x comes from exactly one with the sum x
 abbrev pub Even : (N M : ℕ) (sum h g : ℕ → ℕ) → Type 0
 Even N M sum h g = (x : ℕ) → x < M → (τ : ℕ) → τ < N → sum τ ≡ g x → count N (λ σ. eqb (sum σ) x && eqb (h σ) τ) ≡ 1
+
+-- each number comes from as many as there are values that g takes to its sum
+abbrev pub Counted : (N M : ℕ) (sum h g : ℕ → ℕ) → Type 0
+Counted N M sum h g = (τ : ℕ) → τ < N → count N (λ σ. eqb (h σ) τ) ≡ count M (λ x. eqb (g x) (sum τ))
+
+-- This needs no `sums`: every number is met, and there are no more numbers than those.
+pub even→counted : (N M : ℕ) (sum h g : ℕ → ℕ) → ((σ : ℕ) → sum σ < M) → ((σ : ℕ) → σ < N → h σ < N) → ((x : ℕ) → x < M → g x < M) → Injective M g
+    → Even N M sum h g → Counted N M sum h g
+even→counted N M sum h g sum-lt into g-into g-inj u τ l =
+    onto-once N h into met τ l ∙ sym (pigeonhole M g g-inj g-into (sum τ) (sum-lt τ))
+  where
+    met : (y : ℕ) → y < N → 1 ≤ count N (λ σ. eqb (h σ) y)
+    met y ly =
+        let x = onto M g g-inj g-into (sum y) (sum-lt y) in
+        omega (
+          arith,
+          u (x .0) (x .1) y ly (sym (x .2)),
+          count-mono N (λ σ. eqb (sum σ) (x .0) && eqb (h σ) y) (λ σ. eqb (h σ) y) (λ σ k. and-right (eqb (sum σ) (x .0)) (eqb (h σ) y)),
+        )
 
 module _ (N M : ℕ) (sum h g : ℕ → ℕ) (sum-lt : (σ : ℕ) → sum σ < M) (c : Carries N M sum h g) where
   pub injective→even : Injective N h → Even N M sum h g
@@ -61,8 +80,12 @@ module _ (N M : ℕ) (sum h g : ℕ → ℕ) (sum-lt : (σ : ℕ) → sum σ < M
       (and-intro (eq-eqb (sum a) (sum a) refl) (eq-eqb (h a) (h a) refl))
       (and-intro (eq-eqb (sum b) (sum a) (sym ex)) (eq-eqb (h b) (h a) (sym e)))
 
-  pub even↔injective : Even N M sum h g ↔ Injective N h
-  even↔injective = (even→injective, injective→even)
+  pub counted→even : Counted N M sum h g → Even N M sum h g
+  counted→even k =
+      injective→even
+      (λ a b la lb e. count-unique N (λ σ. eqb (h σ) (h a))
+      (k (h a) (c .into a la) ∙ pigeonhole M g (c .g-inj) (c .g-into) (sum (h a)) (sum-lt (h a)))
+      a b la lb (eq-eqb (h a) (h a) refl) (eq-eqb (h b) (h a) (sym e)))
 
   -- a test of what h gives passes as often among the numbers with the sum x as the test itself among those with the sum g x
   pub counted : Injective N h → (p : ℕ → Bool) (x : ℕ) → x < M

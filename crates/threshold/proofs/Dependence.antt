@@ -4,18 +4,19 @@ use mathlib.Core.Path.{_≡_, sym, ap, _∙_}
 use mathlib.Core.Logic.{⊎-elim}
 use mathlib.Core.Bool.{Bool, true}
 use mathlib.Core.List.{[]}
-use Prim.Native.Nat.{ℕ, _+_, _*_, _/_, _^_, _<_}
+use Prim.Native.Nat.{ℕ, _+_, _-_, _*_, _/_, _^_, _<_}
 use native.Mathlib.Nat.{mul-le-mul-left, mul-suc, add-mul}
 use native.Mathlib.Omega.{arith}
 use lib.Pow.{pow-pos, high-ones}
 use lib.Bits.{bitAnd, and-high}
 use lib.ListN.{getD}
 use Rattle.finite.specs.Tests.{any}
-use Rattle.finite.proofs.Testing.{bool-ext, any-some, any-none, true-or-false}
 use Rattle.anf.specs.Terms.{TermList, names, clear}
+use Rattle.finite.proofs.Testing.{bool-ext, any-some, any-none, true-or-false}
 use Rattle.anf.proofs.Terms.{clear-add, independent, names-depends}
 use Rattle.design.specs.Design.{Stage}
-use Rattle.threshold.specs.Sharing.{share, setting, putShare, withShare, variables}
+use Rattle.threshold.specs.Sharing.{share, setting, putShare, withShare}
+use Rattle.threshold.specs.inside.Variables.{variables}
 use Rattle.threshold.specs.Stages.{component, readsOwn}
 use Rattle.threshold.proofs.Sharing.{share-lt, put-share-setting, setting-with, with-other}
 use Rattle.threshold.proofs.Output.{component-eq, component-bit}

@@ -6,7 +6,7 @@ pub mod Tests
 pub mod Stages
 pub mod Meetings
 pub mod Dependence
-pub mod Walk
+pub mod Packing
 pub mod Running
 pub mod Evaluating
 pub mod Sending

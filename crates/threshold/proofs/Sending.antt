@@ -13,7 +13,7 @@ use borrow.Author.Tests.{lt-ltb, le-ltb, not-true, not-false}
 use mir.Syntax.{w8, w32, w64}
 use mir.Val.{Fits}
 use Rattle.finite.specs.Tests.{all, tabulate}
-use Rattle.finite.proofs.Testing.{all-more, all-fails}
+use Rattle.finite.proofs.Testing.{all-more, all-fails, tabulate-more}
 use Rattle.design.specs.Limits.{greatestWidth, greatestShares, greatestShareBits}
 use Rattle.design.specs.Design.{stageOf}
 use Rattle.design.specs.Reading.{meaning}
@@ -22,9 +22,10 @@ use Rattle.design.specs.declared.Layout.{Layout}
 use Rattle.design.proofs.Answered.{described, refuses}
 use Rattle.design.proofs.StageLists.{stages-length, lists-length}
 use Rattle.threshold.specs.Stages.{output, component}
-use Rattle.threshold.specs.Running.{packed, unpacked, shareFits, sharesFit, refusal, running}
+use Rattle.threshold.specs.Running.{packed, unpacked, shareFits, sharesFit, fiveZeros, refusedRun, running}
 use Rattle.threshold.specs.declared.Ran.{Ran}
-use Rattle.threshold.proofs.Running.{zeros, share-fits, packed-none, packed-next, packed-lt, packed-small, unpacked-filled, tabulated-more, Sent, sent-start, sent-fits, sent-next, sent-end, unfit-end, running-refused}
+use Rattle.threshold.proofs.Packing.{share-fits, packed-none, packed-next, packed-lt, packed-small, unpacked-filled}
+use Rattle.threshold.proofs.Running.{Sent, sent-start, sent-fits, sent-next, sent-end, unfit-end, running-refused}
 
 -- ---- `share_fits`: v is share j
 
@@ -86,12 +87,12 @@ module _ (w s x j : ℕ) (l : List ℕ) (a : j ≤ s) (b : s ≤ j) (e : x ≡ p
 
 -- ---- `run_stage`: the places of `out` below j hold what the components give, the others 0
 
-pub record Filled (w : ℕ) (ls : List (List ℕ)) (x j : ℕ) (out : List ℕ) : Type 0 where
-  pub is : out ≡ tabulate j (λ i. component w ls i x) ++ drop j zeros
+pub record FilledBelow (w : ℕ) (ls : List (List ℕ)) (x j : ℕ) (out : List ℕ) : Type 0 where
+  pub is : out ≡ tabulate j (λ i. component w ls i x) ++ drop j fiveZeros
 
-pub filled-start : (w : ℕ) (ls : List (List ℕ)) (x : ℕ) → Filled w ls x 0 zeros
+pub out-start : (w : ℕ) (ls : List (List ℕ)) (x : ℕ) → FilledBelow w ls x 0 fiveZeros
 unfolding tabulate
-filled-start w ls x = record { is = refl }
+out-start w ls x = record { is = refl }
 
 module _ (f : List ℕ) (y : Layout) (d : Describes f y) where
   pub few-bits : y .head .m * y .head .s ≤ greatestShareBits
@@ -110,25 +111,25 @@ module _ (f : List ℕ) (y : Layout) (d : Describes f y) where
     pub turn-fits : Fits w64 (j + 1)
     turn-fits = record { fits = omega (arith, few-shares) }
 
-    pub filled-more : (ls : List (List ℕ)) (x v : ℕ) (out : List ℕ) → Filled (y .head .m) ls x j out → v ≡ component (y .head .m) ls j x
-        → Filled (y .head .m) ls x (j + 1) (set out j v)
-    filled-more ls x v out g e =
-        record { is = ap₂ (λ (o : List ℕ) (z : ℕ). set o j z) (g .is) e ∙ tabulated-more j (λ i. component (y .head .m) ls i x) place-of-five }
+    pub out-more : (ls : List (List ℕ)) (x v : ℕ) (out : List ℕ) → FilledBelow (y .head .m) ls x j out → v ≡ component (y .head .m) ls j x
+        → FilledBelow (y .head .m) ls x (j + 1) (set out j v)
+    out-more ls x v out g e =
+        record { is = ap₂ (λ (o : List ℕ) (z : ℕ). set o j z) (g .is) e ∙ tabulate-more j (λ i. component (y .head .m) ls i x) fiveZeros place-of-five }
 
-  pub filled-end : (ls : List (List ℕ)) (x j : ℕ) (out l : List ℕ) → Filled (y .head .m) ls x j out → j ≤ y .head .s → y .head .s ≤ j
+  pub out-end : (ls : List (List ℕ)) (x j : ℕ) (out l : List ℕ) → FilledBelow (y .head .m) ls x j out → j ≤ y .head .s → y .head .s ≤ j
       → x ≡ packed (y .head .m) (y .head .s) l → out ≡ unpacked (y .head .m) (y .head .s) (output ls (packed (y .head .m) (y .head .s) l))
-  filled-end ls x j out l g a b e =
+  out-end ls x j out l g a b e =
       let z : j ≡ y .head .s = omega arith in
-      g .is ∙ ap (λ (k : ℕ). tabulate k (λ i. component (y .head .m) ls i x) ++ drop k zeros) z
+      g .is ∙ ap (λ (k : ℕ). tabulate k (λ i. component (y .head .m) ls i x) ++ drop k fiveZeros) z
       ∙ unpacked-filled (y .head .m) (y .head .s) (output ls x) few-shares ∙ ap (λ (q : ℕ). unpacked (y .head .m) (y .head .s) (output ls q)) e
 
 -- ---- `run`: y is what was read of the file f, b whether the shares fit, v what is answered
 
-pub unread : (f l : List ℕ) (y : Layout) → Answers f y → (y .reason ≡ 0 → ⊥) → (v : Ran) → v ≡ refusal (y .reason) → v ≡ running f l
+pub unread : (f l : List ℕ) (y : Layout) → Answers f y → (y .reason ≡ 0 → ⊥) → (v : Ran) → v ≡ refusedRun (y .reason) → v ≡ running f l
 unread f l y a n v e = e ∙ sym (running-refused f l _ _ (refuses a n))
 
 -- the shares `at` are what the chain makes of l, up to stage t
-pub record Passed (f : List ℕ) (y : Layout) (l at : List ℕ) (t : ℕ) : Type 0 where
+pub record RunTo (f : List ℕ) (y : Layout) (l at : List ℕ) (t : ℕ) : Type 0 where
   pub describes : Describes f y
   pub fit : sharesFit (y .head .m) (y .head .s) l ≡ true
   pub sent : Sent (y .head .m) (y .head .s) (meaning f .stages) l at t
@@ -138,25 +139,25 @@ module _ (f : List ℕ) (y : Layout) (a : Answers f y) (z : y .reason ≡ 0) whe
   few-wide = described (a .layout z) .bounds .m-high
 
   module _ (l : List ℕ) (b : Bool) (eb : b ≡ sharesFit (y .head .m) (y .head .s) l) where
-    pub unfit : not b ≡ true → (v : Ran) → v ≡ refusal 15 → v ≡ running f l
+    pub unfit : not b ≡ true → (v : Ran) → v ≡ refusedRun 15 → v ≡ running f l
     unfit h v e = e ∙ sym (unfit-end f l y (a .layout z) (sym eb ∙ not-true b h))
 
-    pub passed-start : not b ≡ false → length l ≡ 5 → Passed f y l l 0
-    passed-start h n =
+    pub run-start : not b ≡ false → length l ≡ 5 → RunTo f y l l 0
+    run-start h n =
         let d = a .layout z in
         let u = sym eb ∙ not-false b h in
         record { describes = d; fit = u; sent = sent-start _ _ _ l (few-shares f y d) n u }
 
-module _ (f : List ℕ) (y : Layout) (l at : List ℕ) (t : ℕ) (p : Passed f y l at t) where
-  pub passed-fits : sharesFit (y .head .m) (y .head .s) at ≡ true
-  passed-fits = sent-fits _ _ _ _ (few-shares f y (p .describes)) _ _ (p .sent)
+module _ (f : List ℕ) (y : Layout) (l at : List ℕ) (t : ℕ) (p : RunTo f y l at t) where
+  pub run-fits : sharesFit (y .head .m) (y .head .s) at ≡ true
+  run-fits = sent-fits _ _ _ _ (few-shares f y (p .describes)) _ _ (p .sent)
 
-  pub passed-end : t ≤ y .head .k → y .head .k ≤ t → record { reason = 0; shares = at } ≡ running f l
-  passed-end a b = sent-end f l at y (p .describes) t (omega arith) (p .fit) (p .sent)
+  pub run-end : t ≤ y .head .k → y .head .k ≤ t → record { reason = 0; shares = at } ≡ running f l
+  run-end a b = sent-end f l at y (p .describes) t (omega arith) (p .fit) (p .sent)
 
-  pub passed-more : t < y .head .k → (next : List ℕ)
-      → next ≡ unpacked (y .head .m) (y .head .s) (output (stageOf (meaning f) t .lists) (packed (y .head .m) (y .head .s) at)) → Passed f y l next (t + 1)
-  passed-more h next e =
+  pub run-more : t < y .head .k → (next : List ℕ)
+      → next ≡ unpacked (y .head .m) (y .head .s) (output (stageOf (meaning f) t .lists) (packed (y .head .m) (y .head .s) at)) → RunTo f y l next (t + 1)
+  run-more h next e =
       let d = p .describes in
       let u = subst (λ (k : ℕ). t < k) (sym (stages-length f y d)) h in
       record { describes = d; fit = p .fit; sent = sent-next _ _ _ _ (few-shares f y d) _ t (p .sent) next u (lists-length f y d t h) e }

@@ -3,10 +3,11 @@
 use mathlib.Core.Path.{_≡_, refl, sym, ap, ap₂, _∙_, subst}
 use mathlib.Core.Bool.{_&&_}
 use Prim.Native.Nat.{ℕ, zero, suc, _+_, _-_, _*_, _/_, _%_, _^_, _≤_, _<_}
-use native.Mathlib.Nat.{le-of-suc-le-suc, not-suc-le-zero, mul-zero, mul-suc, div-one, mod-one, mul-one, add-zero, mul-comm, mul-assoc, mul-add, div-div-eq-div-mul, mod-lt, div-add-mod', add-mul, add-assoc, add-sub-of-le, div-lt-iff-lt-mul, add-comm, mul-le-mul-right}
+use native.Mathlib.Nat.{le-of-suc-le-suc, not-suc-le-zero, add-zero, add-comm, add-assoc, mul-zero, mul-one, mul-suc, mul-comm, mul-assoc, mul-add, add-mul}
+use native.Mathlib.Nat.{add-sub-of-le, mul-le-mul-left, mul-le-mul-right, div-one, div-add-mod', div-div-eq-div-mul, div-lt-iff-lt-mul, mod-one, mod-lt, mod-eq-of-lt}
 use native.Mathlib.Omega.{arith}
 use lib.Arith.{digits-lt, digits-div, digits-mod, mod-mul, lt-one}
-use lib.Pow.{pow-pos, pow-add, field, mod-mod-pow, shr-shr}
+use lib.Pow.{pow-pos, pow-add, field, mod-mod-pow, shr-shr, low}
 use native.Mathlib.Numerals.{sub-one}
 use lib.Bits.{bitAnd, bitXor, and-mask, xor-zero-r, xor-lt, xor-self}
 use lib.Dec.{eqb}
@@ -17,7 +18,7 @@ use Rattle.finite.specs.Sets.{has}
 use Rattle.finite.proofs.Testing.{and-intro, and-left, and-right}
 use Rattle.finite.proofs.Counting.{count-one}
 use Rattle.finite.proofs.Xor.{xor-assoc, xor-left-comm}
-use Rattle.finite.proofs.Sums.{xorBelow-ext, xorBelow-lt, xorBelow-first}
+use Rattle.finite.proofs.Sums.{xorBelow-ext, xorBelow-first, xorBelow-lt}
 use Rattle.finite.proofs.Elements.{has-congr}
 use Rattle.threshold.specs.Sharing.{share, sum, setting, putShare, withShare}
 
@@ -45,6 +46,25 @@ pub share-suc : (w j σ : ℕ) → share w (suc j) σ ≡ share w j (σ / 2 ^ w)
 unfolding share
 share-suc w j σ = ap (λ (x : ℕ). x % 2 ^ w) (div-step w j σ)
 
+pub share-lt : (w j σ : ℕ) → share w j σ < 2 ^ w
+unfolding share
+share-lt w j σ = mod-lt (σ / 2 ^ (w * j)) (pow-pos w)
+
+-- a number made of the shares r below place s and a at it
+pub share-low : (w s j a r : ℕ) → j < s → r < 2 ^ (w * s) → share w j (a * 2 ^ (w * s) + r) ≡ share w j r
+unfolding share
+share-low w s j a r h l =
+    let d : (w * s - (w + w * j)) + (w + w * j) ≡ w * s = (let e = mul-le-mul-left w h in let q = mul-suc w j in omega arith) in
+    let n = a * 2 ^ (w * s) + r in
+    let t : n % 2 ^ (w + w * j) ≡ r % 2 ^ (w + w * j) =
+    sym (mod-mod-pow n (w * s - (w + w * j)) (w + w * j)) ∙ ap (λ (x : ℕ). n % 2 ^ x % 2 ^ (w + w * j)) d
+    ∙ ap (λ (x : ℕ). x % 2 ^ (w + w * j)) (low a (w * s) l) in
+    sym (field n w (w * j)) ∙ ap (λ (x : ℕ). x / 2 ^ (w * j)) t ∙ field r w (w * j)
+
+pub share-top : (w s a r : ℕ) → a < 2 ^ w → r < 2 ^ (w * s) → share w s (a * 2 ^ (w * s) + r) ≡ a
+unfolding share
+share-top w s a r h l = ap (λ (x : ℕ). x % 2 ^ w) (digits-div a l) ∙ mod-eq-of-lt h
+
 setting-zero : (w σ : ℕ) → setting w 0 σ ≡ σ / 2 ^ w
 unfolding setting
 setting-zero w σ = simp (pow-zeroth, div-one, mod-one, mul-one, add-zero)
@@ -61,10 +81,6 @@ unfolding sum
 sum-suc w s σ =
     xorBelow-first s (λ j. share w j σ)
     ∙ ap₂ bitXor (share-zero w σ) (xorBelow-ext s (λ j. share w (suc j) σ) (λ j. share w j (σ / 2 ^ w)) (λ j l. share-suc w j σ))
-
-pub share-lt : (w j σ : ℕ) → share w j σ < 2 ^ w
-unfolding share
-share-lt w j σ = mod-lt (σ / 2 ^ (w * j)) (pow-pos w)
 
 pub sum-lt : (w s σ : ℕ) → sum w s σ < 2 ^ w
 unfolding sum

@@ -3,17 +3,37 @@
 use mathlib.Core.Path.{_≡_, sym, ap, _∙_}
 use mathlib.Core.Logic.{_↔_, _≢_}
 use mathlib.Core.Bool.{true, false, _&&_, not}
+use mathlib.Core.List.{List}
 use Prim.Native.Nat.{ℕ, _*_, _^_, _<_}
 use lib.Dec.{eqb}
 use borrow.Author.Tests.{eqb-true, eqb-false, eq-eqb, ne-eqb, not-true, not-false}
-use Rattle.finite.specs.Tests.{count}
 use Rattle.finite.proofs.Testing.{all-at, all-intro, any-at, any-some, any-none, none-any, implies-at, implies-intro, and-intro, and-left, and-right}
 use Rattle.anf.specs.Tables.{entry}
 use Rattle.design.specs.Design.{Stage}
-use Rattle.threshold.specs.Sharing.{sum, withShare}
+use Rattle.threshold.specs.Sharing.{share, sum, withShare}
 use Rattle.threshold.specs.Stages.{output, component, Correct, Ignores, NonComplete, Uniform, correct, readsOwn, nonComplete, sharingsTo, uniform}
 use Rattle.threshold.proofs.Sharing.{sum-shares}
-use Rattle.threshold.proofs.Carried.{count→exactly, exactly→count}
+use Rattle.threshold.proofs.Carried.{Even, count→exactly, exactly→count}
+
+-- ---- uniform, as counts of 1
+
+module _ (w s : ℕ) (out : ℕ → ℕ) (g : List ℕ) where
+  both : (x τ σ : ℕ) → (eqb (sum w s σ) x && eqb (out σ) τ) ≡ true → (sum w s σ ≡ x) × (out σ ≡ τ)
+  both x τ σ e = (
+    eqb-true _ _ (and-left (eqb (sum w s σ) x) (eqb (out σ) τ) e),
+    eqb-true _ _ (and-right (eqb (sum w s σ) x) (eqb (out σ) τ) e),
+  )
+
+  of-both : (x τ σ : ℕ) → (sum w s σ ≡ x) × (out σ ≡ τ) → (eqb (sum w s σ) x && eqb (out σ) τ) ≡ true
+  of-both x τ σ e = and-intro (eq-eqb _ _ (e .0)) (eq-eqb _ _ (e .1))
+
+  pub even→uniform : Even (2 ^ (w * s)) (2 ^ w) (sum w s) out (entry g) → Uniform w s out g
+  even→uniform e x lx τ lτ h = count→exactly (2 ^ (w * s)) _ _ (both x τ) (of-both x τ) (e x lx τ lτ h)
+
+  pub uniform→even : Uniform w s out g → Even (2 ^ (w * s)) (2 ^ w) (sum w s) out (entry g)
+  uniform→even u x lx τ lτ h = exactly→count (2 ^ (w * s)) _ _ (both x τ) (of-both x τ) (u x lx τ lτ h)
+
+-- ---- the tests of a stage
 
 module _ (w s : ℕ) (g : Stage) where
   -- ---- correct
@@ -64,28 +84,17 @@ module _ (w s : ℕ) (g : Stage) where
 
   -- ---- uniform
 
-  pub uniform-at : uniform w s g ≡ true → (x : ℕ) → x < 2 ^ w → (τ : ℕ) → τ < 2 ^ (w * s) → sum w s τ ≡ entry (g .table) x
-      → count (2 ^ (w * s)) (λ σ. eqb (sum w s σ) x && eqb (output (g .lists) σ) τ) ≡ 1
+  pub uniform-at : uniform w s g ≡ true → Even (2 ^ (w * s)) (2 ^ w) (sum w s) (output (g .lists)) (entry (g .table))
   unfolding uniform sharingsTo
   uniform-at e x lx τ lτ h = eqb-true _ _ (implies-at _ _ (all-at (2 ^ (w * s)) _ (all-at (2 ^ w) _ e x lx) τ lτ) (eq-eqb _ _ h))
 
-  pub at-uniform : ((x : ℕ) → x < 2 ^ w → (τ : ℕ) → τ < 2 ^ (w * s) → sum w s τ ≡ entry (g .table) x
-      → count (2 ^ (w * s)) (λ σ. eqb (sum w s σ) x && eqb (output (g .lists) σ) τ) ≡ 1) → uniform w s g ≡ true
+  pub at-uniform : Even (2 ^ (w * s)) (2 ^ w) (sum w s) (output (g .lists)) (entry (g .table)) → uniform w s g ≡ true
   unfolding uniform sharingsTo
   at-uniform h =
       all-intro (2 ^ w) _ (λ x lx. all-intro (2 ^ (w * s)) _ (λ τ lτ. implies-intro _ _ (λ e. eq-eqb _ _ (h x lx τ lτ (eqb-true _ _ e)))))
 
-  both : (x τ σ : ℕ) → (eqb (sum w s σ) x && eqb (output (g .lists) σ) τ) ≡ true → (sum w s σ ≡ x) × (output (g .lists) σ ≡ τ)
-  both x τ σ e = (
-    eqb-true _ _ (and-left (eqb (sum w s σ) x) (eqb (output (g .lists) σ) τ) e),
-    eqb-true _ _ (and-right (eqb (sum w s σ) x) (eqb (output (g .lists) σ) τ) e),
-  )
-
-  of-both : (x τ σ : ℕ) → (sum w s σ ≡ x) × (output (g .lists) σ ≡ τ) → (eqb (sum w s σ) x && eqb (output (g .lists) σ) τ) ≡ true
-  of-both x τ σ e = and-intro (eq-eqb _ _ (e .0)) (eq-eqb _ _ (e .1))
-
   pub uniform↔ : uniform w s g ≡ true ↔ Uniform w s (output (g .lists)) (g .table)
   uniform↔ = (
-    λ e x lx τ lτ h. count→exactly (2 ^ (w * s)) _ _ (both x τ) (of-both x τ) (uniform-at e x lx τ lτ h),
-    λ u. at-uniform (λ x lx τ lτ h. exactly→count (2 ^ (w * s)) _ _ (both x τ) (of-both x τ) (u x lx τ lτ h)),
+    λ e. even→uniform w s (output (g .lists)) (g .table) (uniform-at e),
+    λ u. at-uniform (uniform→even w s (output (g .lists)) (g .table) u),
   )

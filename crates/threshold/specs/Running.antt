@@ -1,10 +1,11 @@
--- Running a chain on five shares, the greatest number of them: bytes that travel together, unused ones zero.
+-- The paper's section "Running a chain": on five shares, the greatest number of them; bytes that travel together, unused ones zero.
 use Prim.Native.Nat.{ℕ, _*_, _^_}
 use mathlib.Core.Bool.{Bool}
 use mathlib.Core.List.{List, [], _∷_}
 use lib.Dec.{eqb, ltb}
 use lib.ListN.{getD}
 use Rattle.finite.specs.Tests.{pick, all, total, tabulate}
+use Rattle.finite.specs.Sums.{xorBelow}
 use Rattle.design.specs.Limits.{greatestShares}
 use Rattle.design.specs.Design.{Design}
 use Rattle.design.specs.Reading.{Reading, refused, means, reading}
@@ -27,18 +28,29 @@ shareFits w s j v = pick (ltb j s) (ltb v (2 ^ w)) (eqb v 0)
 unfoldable pub sharesFit : ℕ → ℕ → List ℕ → Bool
 sharesFit w s l = all greatestShares (λ j. shareFits w s j (getD l j 0))
 
--- a refusal answers its number and five zeros
-abbrev pub refusal : ℕ → Ran
-refusal r = record { reason = r; shares = 0 ∷ 0 ∷ 0 ∷ 0 ∷ 0 ∷ [] }
+abbrev pub fiveZeros : List ℕ
+fiveZeros = 0 ∷ 0 ∷ 0 ∷ 0 ∷ 0 ∷ []
 
--- success answers 0 and the output shares, those that the last stage gives
-abbrev pub success : Design → List ℕ → Ran
-success d l = record { reason = 0; shares = unpacked (d .m) (d .s) (handed (d .stages) (d .k) (packed (d .m) (d .s) l)) }
+-- the sum of five shares
+abbrev pub fiveSum : List ℕ → ℕ
+fiveSum l = xorBelow greatestShares (λ j. getD l j 0)
+
+-- a refusal answers its number and five zeros
+abbrev pub refusedRun : ℕ → Ran
+refusedRun r = record { reason = r; shares = fiveZeros }
+
+-- the output shares that the last stage gives when the shares l are sent through, unused ones zero
+abbrev pub outputShares : Design → List ℕ → List ℕ
+outputShares d l = unpacked (d .m) (d .s) (handed (d .stages) (d .k) (packed (d .m) (d .s) l))
+
+-- success answers 0 and the output shares
+abbrev pub finishedRun : Design → List ℕ → Ran
+finishedRun d l = record { reason = 0; shares = outputShares d l }
 
 -- first the refusals of reading, then 15
 unfoldable pub runningOn : Reading → List ℕ → Ran
-runningOn (refused r place) l = refusal r
-runningOn (means d) l = pick (sharesFit (d .m) (d .s) l) (success d l) (refusal 15)
+runningOn (refused r place) l = refusedRun r
+runningOn (means d) l = pick (sharesFit (d .m) (d .s) l) (finishedRun d l) (refusedRun 15)
 
 -- the answer of running the chain of a file on five shares
 unfoldable pub running : List ℕ → List ℕ → Ran

@@ -1,6 +1,6 @@
--- Sharings. A sharing of width w in s shares is a number below 2^(w × s); share 0 is its lowest w bits, share 1 the next.
--- (In answers shares and components are counted from 1.)
-use Prim.Native.Nat.{ℕ, _+_, _-_, _*_, _/_, _%_, _^_}
+-- Sharings, of the paper's section "Terms of threshold implementation". A sharing of width w in s shares is a number below 2^(w × s); share 0 is its
+-- lowest w bits, share 1 the next. (In answers shares and components are counted from 1.)
+use Prim.Native.Nat.{ℕ, _+_, _*_, _/_, _%_, _^_}
 use Rattle.finite.specs.Sums.{xorBelow}
 
 -- share j
@@ -22,7 +22,3 @@ putShare w j v q = (q / 2 ^ (w * j) * 2 ^ w + v) * 2 ^ (w * j) + q % 2 ^ (w * j)
 -- the sharing with share j changed to v, and no other
 abbrev pub withShare : ℕ → ℕ → ℕ → ℕ → ℕ
 withShare w j v σ = putShare w j v (setting w j σ)
-
--- the variables of share j, as a set
-unfoldable pub variables : ℕ → ℕ → ℕ
-variables w j = (2 ^ w - 1) * 2 ^ (w * j)

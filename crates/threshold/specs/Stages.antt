@@ -1,4 +1,5 @@
--- A stage as functions: its components, and what correct, non-complete and uniform mean of them.
+-- A stage as functions: its components, and what correct, non-complete and uniform mean of them, in the paper's section "Terms of threshold
+-- implementation".
 use Prim.Native.Nat.{ℕ, _+_, _*_, _^_, _<_}
 use mathlib.Core.Path.{_≡_}
 use mathlib.Core.Bool.{Bool, _&&_, not}
@@ -38,7 +39,7 @@ NonComplete w s F = (j : ℕ) → j < s → Ignores w s j (F j)
 pub record ExactlyOne (n : ℕ) (P : ℕ → Type 0) : Type 0 where
   pub the : ℕ
   pub below : the < n
-  pub has : P the
+  pub holds : P the
   pub only : (i : ℕ) → i < n → P i → i ≡ the
 
 -- uniform: for each x, each sharing of G(x) comes from exactly one sharing of x
@@ -46,7 +47,13 @@ abbrev pub Uniform : ℕ → ℕ → (ℕ → ℕ) → List ℕ → Type 0
 Uniform w s out g =
     (x : ℕ) → x < 2 ^ w → (τ : ℕ) → τ < 2 ^ (w * s) → sum w s τ ≡ entry g x → ExactlyOne (2 ^ (w * s)) (λ σ. (sum w s σ ≡ x) × (out σ ≡ τ))
 
--- ---- The same as tests of a stage.
+-- The count in document 003, section 2.1: each output sharing comes from as many sharings as there are x whose G(x) it shares. (There times
+-- 2^((s - 1) (m - n)) for a function from m bits to n, which is 1 here: G has as many bits as its input.)
+abbrev pub CountedUniform : ℕ → ℕ → (ℕ → ℕ) → List ℕ → Type 0
+CountedUniform w s out g =
+    (τ : ℕ) → τ < 2 ^ (w * s) → count (2 ^ (w * s)) (λ σ. eqb (out σ) τ) ≡ count (2 ^ w) (λ x. eqb (entry g x) (sum w s τ))
+
+-- ---- The same as tests of a stage, for the section "Verdict".
 
 unfoldable pub correct : ℕ → ℕ → Stage → Bool
 correct w s g = all (2 ^ (w * s)) (λ σ. eqb (sum w s (output (g .lists) σ)) (entry (g .table) (sum w s σ)))

@@ -11,7 +11,7 @@ ghost use Rattle.design.specs.Design.{stageOf};
 ghost use Rattle.design.specs.Reading.{meaning};
 ghost use Rattle.design.specs.Layout.{Describes};
 ghost use Rattle.threshold.specs.Stages.{output};
-ghost use Rattle.threshold.specs.Running.{packed, unpacked, shareFits, sharesFit, refusal, running};
+ghost use Rattle.threshold.specs.Running.{packed, unpacked, shareFits, sharesFit, refusedRun, running};
 
 // Whether share `j` is one that a run takes: a used one is below 2^m, one after `s` is 0.
 fn share_fits(share: u8, j: usize, m: usize, s: usize) -> bool
@@ -76,7 +76,7 @@ pub fn run_stage(file: &[u8], layout: Layout, t: usize, shares: [u8; 5]) -> [u8;
 }
 
 fn refuse(reason: usize) -> Ran
-    ensures { λ r. ⌜ r ≡ refusal reason ⌝ }
+    ensures { λ r. ⌜ r ≡ refusedRun reason ⌝ }
 {
     Ran {
         reason,

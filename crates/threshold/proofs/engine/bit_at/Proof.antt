@@ -1,6 +1,6 @@
 -- `threshold::bit_at` meets its contract.
 use borrow.Author.Needs.{needs}
-use Rattle.threshold.proofs.Walk.{bit-is, bit-small}
+use Rattle.threshold.proofs.Evaluating.{bit-is, bit-small}
 use Rattle.threshold.proofs.engine.bit_at.Statement.{statement}
 use Rattle.threshold.proofs.engine.bit_at.Tie as tie
 

@@ -1,6 +1,7 @@
 -- `threshold::component_at` meets its contract: share j of the output is the output of the m lists from m j on.
 use borrow.Author.Needs.{needs}
-use Rattle.threshold.proofs.Evaluating.{within-limits, lists-fit, list-fits, list-within, few-lists, component-known, component-inside, component-found}
+use Rattle.design.proofs.Found.{limits}
+use Rattle.threshold.proofs.Evaluating.{lists-fit, list-fits, list-within, few-lists, component-known, component-inside, component-found}
 use Rattle.threshold.proofs.engine.component_at.Statement.{statement}
 use Rattle.threshold.proofs.engine.component_at.Tie as tie
 
@@ -10,7 +11,7 @@ component-at-spec =
     (tie.spec
     (λ c. search lists-fit)
     (λ c. search list-fits)
-    (λ c κs. search (within-limits, list-within))
+    (λ c κs. search (limits, list-within))
     (λ c. search needs)
     (λ c κs. search (few-lists, component-known, component-inside))
     (λ c. search component-found))

@@ -1,12 +1,12 @@
 -- `threshold::output_of` meets its contract. The invariant: y is the output of the lists from the place `at` on.
 use native.Mathlib.Omega.{arith}
 use borrow.Author.Needs.{needs}
-use Rattle.threshold.proofs.Walk.{Walked, walked-first, walked-inside, walked-next, walked-last, walked-lt}
+use Rattle.threshold.proofs.Evaluating.{OutputFrom, from-start, from-inside, from-more, from-end, from-lt}
 use Rattle.threshold.proofs.engine.output_of.Statement.{statement}
 use Rattle.threshold.proofs.engine.output_of.Tie as tie
 
 abbrev Inv-loop : tie.InvT-loop
-Inv-loop file starts first n x y₀ at₀ next₀ y at next = Walked file starts first n x at next y
+Inv-loop file starts first n x y₀ at₀ next₀ y at next = OutputFrom file starts first n x at next y
 
 abbrev μ-loop : tie.MeasureT-loop
 μ-loop file starts first n x y₀ at₀ next₀ y at next = at
@@ -20,13 +20,13 @@ output-of-spec =
     (λ c. omega arith)
     (λ c. omega arith)
     (λ c. search needs)
-    (λ c. search walked-first)
+    (λ c. search from-start)
     (λ c. search needs)
     (λ c. omega arith)
     (λ c. omega arith)
     (λ c. omega arith)
-    (λ c κs. search walked-inside)
+    (λ c κs. search from-inside)
     (λ c. omega arith)
     (λ c. search needs)
-    (λ c. search walked-next)
-    (λ c. search (walked-last, walked-lt)))
+    (λ c. search from-more)
+    (λ c. search (from-end, from-lt)))

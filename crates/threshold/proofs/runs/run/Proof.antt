@@ -2,12 +2,12 @@
 use Prim.Native.Nat.{_-_, _≤_}
 use native.Mathlib.Omega.{arith}
 use borrow.Author.Needs.{needs}
-use Rattle.threshold.proofs.Sending.{Passed, unread, few-wide, unfit, passed-start, passed-fits, passed-more, passed-end}
+use Rattle.threshold.proofs.Sending.{RunTo, unread, few-wide, unfit, run-start, run-fits, run-more, run-end}
 use Rattle.threshold.proofs.runs.run.Statement.{statement}
 use Rattle.threshold.proofs.runs.run.Tie as tie
 
 abbrev Inv-loop : tie.InvT-loop
-Inv-loop file layout at₀ t₀ at t = (t ≤ layout .head .k) × Passed file layout at₀ at t
+Inv-loop file layout at₀ t₀ at t = (t ≤ layout .head .k) × RunTo file layout at₀ at t
 
 abbrev μ-loop : tie.MeasureT-loop
 μ-loop file layout at₀ t₀ at t = layout .head .k - t
@@ -24,9 +24,9 @@ run-spec =
     (λ c κs. search few-wide)
     (λ c κs. search needs)
     (λ c. search unfit)
-    (λ c. search (arith, passed-start))
-    (λ c κs. search (arith, passed-fits))
+    (λ c. search (arith, run-start))
+    (λ c κs. search (arith, run-fits))
     (λ c. search needs)
     (λ c. omega arith)
-    (λ c. search (arith, passed-more))
-    (λ c. search passed-end))
+    (λ c. search (arith, run-more))
+    (λ c. search run-end))

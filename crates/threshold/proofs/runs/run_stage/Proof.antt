@@ -4,12 +4,12 @@ use native.Mathlib.Omega.{arith}
 use borrow.Author.Needs.{needs}
 use Rattle.design.specs.Design.{stageOf}
 use Rattle.design.specs.Reading.{meaning}
-use Rattle.threshold.proofs.Sending.{Filled, few-bits, few-shares, filled-start, share-byte, place-of-five, turn-fits, filled-more, filled-end}
+use Rattle.threshold.proofs.Sending.{FilledBelow, few-bits, few-shares, out-start, share-byte, place-of-five, turn-fits, out-more, out-end}
 use Rattle.threshold.proofs.runs.run_stage.Statement.{statement}
 use Rattle.threshold.proofs.runs.run_stage.Tie as tie
 
 abbrev Inv-loop : tie.InvT-loop
-Inv-loop file layout t x out₀ j₀ out j = (j ≤ layout .head .s) × Filled (layout .head .m) (stageOf (meaning file) t .lists) x j out
+Inv-loop file layout t x out₀ j₀ out j = (j ≤ layout .head .s) × FilledBelow (layout .head .m) (stageOf (meaning file) t .lists) x j out
 
 abbrev μ-loop : tie.MeasureT-loop
 μ-loop file layout t x out₀ j₀ out j = layout .head .s - j
@@ -21,11 +21,11 @@ run-stage-spec =
     Inv-loop
     μ-loop
     (λ c κs. search (few-bits, few-shares))
-    (λ c. search (arith, filled-start))
+    (λ c. search (arith, out-start))
     (λ c κs. search needs)
     (λ c. search share-byte)
     (λ c. search place-of-five)
     (λ c. search turn-fits)
     (λ c. omega arith)
-    (λ c. search (arith, filled-more))
-    (λ c. search filled-end))
+    (λ c. search (arith, out-more))
+    (λ c. search out-end))
