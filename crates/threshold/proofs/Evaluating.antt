@@ -149,17 +149,14 @@ module _ (f : List ℕ) (y : Layout) (d : Describes f y) where
           q ∙ ap (λ (l : List (List ℕ)). output l x) (lists-are f (λ i. omega (arith, bytes i)) y d t u (y .head .m * j) (y .head .m) first lists-before e)
           ∙ sym (output-share x (y .head .m) j (stageOf (meaning f) t .lists))
 
--- ---- `ones`: the shift loses no bit
+-- ---- `ones`: p is the number of values of a share
 
-module _ (m : ℕ) (h : m ≤ greatestWidth) where
-  exact : 1 * 2 ^ m % 2 ^ 32 ≡ 2 ^ m
-  exact = shl-exact 1 m 32 (lit< tt) (omega arith) ∙ one-mul _
+module _ (m p : ℕ) (e : p ≡ 2 ^ m) where
+  pub some-values : 1 ≤ p
+  some-values = omega (arith, pow-pos m)
 
-  pub some-shifted : 1 ≤ 1 * 2 ^ m % 2 ^ 32
-  some-shifted = omega (arith, exact, pow-pos m)
-
-  pub ones-shifted : 1 * 2 ^ m % 2 ^ 32 - 1 ≡ 2 ^ m - 1
-  ones-shifted = ap (λ (x : ℕ). x - 1) exact
+  pub ones-fit : m ≤ greatestWidth → p - 1 < 2 ^ 32
+  ones-fit h = let q : 2 ^ m ≤ 2 ^ 6 = pow-mono h in omega arith
 
 -- ---- `sum_of`: total is the sum of the shares passed, rest holds those left
 

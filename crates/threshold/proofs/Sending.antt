@@ -30,9 +30,9 @@ use Rattle.threshold.proofs.Running.{Sent, sent-start, sent-fits, sent-
 -- ---- `share_fits`: v is share j
 
 module _ (w s j v : ℕ) where
-  pub share-used : j < s → w ≤ greatestWidth → ltb v (1 * 2 ^ w % 2 ^ 32) ≡ shareFits w s j v
+  pub share-used : j < s → (x p : ℕ) → x ≡ v → p ≡ 2 ^ w → ltb x p ≡ shareFits w s j v
   unfolding shareFits
-  share-used h k = rw (lt-ltb j s h) (ap (ltb v) (shl-exact 1 w 32 (lit< tt) (omega arith) ∙ one-mul _))
+  share-used h x p ex ep = rw (lt-ltb j s h) (ap₂ ltb ex ep)
 
   pub share-unused : s ≤ j → eqb v 0 ≡ shareFits w s j v
   unfolding shareFits

@@ -53,7 +53,7 @@ fn ones(m: usize) -> u32
     requires { ⌜ m ≤ greatestWidth ⌝ }
     ensures { λ r. ⌜ r ≡ 2 ^ m - 1 ⌝ }
 {
-    (1 << (m as u32)) - 1
+    (finite::power(m) - 1) as u32
 }
 
 // The value that the sharing `x` of `s` shares shares.

@@ -19,7 +19,7 @@ fn share_fits(share: u8, j: usize, m: usize, s: usize) -> bool
     ensures { λ r. ⌜ r ≡ shareFits m s j share ⌝ }
 {
     if j < s {
-        return (share as u32) < (1 << (m as u32));
+        return finite::wide(share) < finite::power(m);
     }
     share == 0
 }

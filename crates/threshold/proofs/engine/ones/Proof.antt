@@ -1,6 +1,6 @@
--- `threshold::ones` meets its contract: the shift loses no bit.
+-- `threshold::ones` meets its contract.
 use borrow.Author.Needs.{needs}
-use Rattle.threshold.proofs.Evaluating.{some-shifted, ones-shifted}
+use Rattle.threshold.proofs.Evaluating.{some-values, ones-fit}
 use Rattle.threshold.proofs.engine.ones.Statement.{statement}
 use Rattle.threshold.proofs.engine.ones.Tie as tie
 
@@ -8,7 +8,7 @@ pub ones-spec : {M : Type 1} → statement M
 ones-spec =
     tie.close
     (tie.spec
-    (λ c. search needs)
-    (λ c. search needs)
-    (λ c. search some-shifted)
-    (λ c. search ones-shifted))
+    (λ c κs. search needs)
+    (λ c. search some-values)
+    (λ c. search ones-fit)
+    (λ c. search needs))
