@@ -21,11 +21,11 @@ use Rattle.finite.proofs.Testing.{all-more, all-fails}
 use Rattle.design.specs.Limits.{greatestWidth, greatestShares, greatestShareBits}
 use Rattle.design.specs.Design.{stageOf}
 use Rattle.design.specs.Reading.{meaning, numberOf}
-use Rattle.design.specs.Layout.{Describes, Limits}
+use Rattle.design.specs.Layout.{Describes}
 use Rattle.design.specs.StageLists.{listsOf}
 use Rattle.design.specs.declared.Layout.{Layout}
 use Rattle.design.proofs.Answered.{described}
-use Rattle.design.proofs.Found.{limits}
+use Rattle.design.proofs.Found.{bits-high}
 use Rattle.design.proofs.StageLists.{Stand, stand}
 use Rattle.threshold.specs.Sharing.{sum}
 use Rattle.threshold.specs.inside.Variables.{variables}
@@ -104,17 +104,8 @@ module _ (f : List ℕ) (l : Layout) (d : Describes f l) where
   pub enough-bits : 3 ≤ l .head .m * l .head .s
   enough-bits = described d .bounds .bits-low
 
-  pub few-bits : l .head .m * l .head .s ≤ greatestShareBits
-  few-bits = described d .bounds .bits
-
   pub bits-fit : l .head .m * l .head .s < 2 ^ 64
   bits-fit = let b = described d .bounds .bits in omega arith
-
-  pub few-wide : l .head .m ≤ greatestWidth
-  few-wide = described d .bounds .m-high
-
-  pub within-limits : Limits (l .head)
-  within-limits = limits f l d
 
   -- zeroed bytes mark nothing
   pub none-marked : (n : ℕ) (ws ws₁ : List ℕ) → n ≡ marksOf l → ws₁ ≡ zeroed n ws → Clear (sharingsOf l) ws₁
@@ -131,7 +122,7 @@ module _ (f : List ℕ) (l : Layout) (t : ℕ) (h : t < l .head .k) (d : Describ
 
     -- the length of an array in a struct is known so
     pub lists-stand : length (map (λ (v : ℕ). v) (l .starts)) ≡ 88 → Standing f (l .starts) first (l .head .m * l .head .s)
-    lists-stand k = (stands .inside, below-field ℕ (l .starts) _ 88 k (stands .known), few-bits f l d)
+    lists-stand k = (stands .inside, below-field ℕ (l .starts) _ 88 k (stands .known), bits-high f l d)
 
     pub stage-agrees : (b : List ℕ) → b ≡ stageOf (meaning f) t .table → (r : Bool)
         → r ≡ agreeing (l .head .m) (l .head .s) (listsOf f (l .starts) first (l .head .m * l .head .s)) b (2 ^ (l .head .m * l .head .s))

@@ -15,7 +15,7 @@ use lib.Arith.{digits-lt, digits-mod, digits-div}
 use lib.Dec.{ltb, eqb, lit<}
 use Rattle.finite.specs.Tests.{pick}
 use Rattle.finite.proofs.Testing.{tabulate-at}
-use Rattle.design.specs.Limits.{greatestTerms}
+use Rattle.design.specs.Limits.{greatestWidth, greatestShares, greatestShareBits, greatestTerms}
 use Rattle.design.specs.Bytes.{byte, u16At}
 use Rattle.design.specs.Design.{Design, noStage, stageOf, listOf}
 use Rattle.design.specs.Layout.{Limits, Describes}
@@ -152,6 +152,15 @@ module _ (f : List ℕ) (l : Layout) (d : Describes f l) where
 
   pub limited : Bounds (l .head .m) (l .head .s) (l .head .k)
   limited = bounds _ _ _ limits
+
+  pub width-high : l .head .m ≤ greatestWidth
+  width-high = limited .m-high
+
+  pub shares-high : l .head .s ≤ greatestShares
+  shares-high = limited .s-high
+
+  pub bits-high : l .head .m * l .head .s ≤ greatestShareBits
+  bits-high = limited .bits
 
   -- the box
   pub box-part : (from : ℕ) → from ≡ getD (l .starts) 1 0 → Part f from (2 ^ l .head .m) (meaning f .box)

@@ -3,12 +3,11 @@
 -- Assumes nothing.
 use mathlib.Core.Path.{_≡_, refl, sym, ap, _∙_}
 use mathlib.Core.List.{List, [], map}
-use Prim.Native.Nat.{ℕ, _+_, _-_, _*_, _/_, _%_, _^_, _≤_, _<_}
-use native.Mathlib.Nat.{lt-of-lt-of-le, mul-le-mul-left, mul-suc, one-mul}
+use Prim.Native.Nat.{ℕ, _+_, _-_, _*_, _/_, _^_, _≤_, _<_}
+use native.Mathlib.Nat.{lt-of-lt-of-le, mul-le-mul-left, mul-suc}
 use native.Mathlib.Omega.{arith}
 use lib.Bits.{bitAnd, bitXor, xor-zero-r}
-use lib.Dec.{lit<}
-use lib.Pow.{pow-mono, pow-pos, shl-exact}
+use lib.Pow.{pow-mono, pow-pos}
 use lib.ListN.{length, getD, drop, length-drop}
 use borrow.Author.Needs.{below-field}
 use borrow.Rule.Slice.Know.{Fit}

@@ -3,11 +3,11 @@
 use mathlib.Core.Path.{_≡_, refl, sym, ap, ap₂, _∙_, subst}
 use mathlib.Core.Bool.{Bool, true, false, not}
 use mathlib.Core.List.{List, _++_}
-use Prim.Native.Nat.{ℕ, _+_, _*_, _%_, _^_, _≤_, _<_}
-use native.Mathlib.Nat.{mul-le-mul-left, one-mul}
+use Prim.Native.Nat.{ℕ, _+_, _*_, _^_, _≤_, _<_}
+use native.Mathlib.Nat.{mul-le-mul-left}
 use native.Mathlib.Omega.{arith}
-use lib.Dec.{eqb, ltb, lit<}
-use lib.Pow.{pow-mono, shl-exact}
+use lib.Dec.{eqb, ltb}
+use lib.Pow.{pow-mono}
 use lib.ListN.{length, getD, set, drop}
 use borrow.Author.Tests.{lt-ltb, le-ltb, not-true, not-false}
 use mir.Syntax.{w8, w32, w64}
@@ -20,6 +20,7 @@ use Rattle.design.specs.Reading.{meaning}
 use Rattle.design.specs.Layout.{Describes, Answers}
 use Rattle.design.specs.declared.Layout.{Layout}
 use Rattle.design.proofs.Answered.{described, refuses}
+use Rattle.design.proofs.Found.{shares-high}
 use Rattle.design.proofs.StageLists.{stages-length, lists-length}
 use Rattle.threshold.specs.Stages.{output, component}
 use Rattle.threshold.specs.Running.{packed, unpacked, shareFits, sharesFit, fiveZeros, refusedRun, running}
@@ -95,21 +96,15 @@ unfolding tabulate
 out-start w ls x = record { is = refl }
 
 module _ (f : List ℕ) (y : Layout) (d : Describes f y) where
-  pub few-bits : y .head .m * y .head .s ≤ greatestShareBits
-  few-bits = described d .bounds .bits
-
-  pub few-shares : y .head .s ≤ greatestShares
-  few-shares = described d .bounds .s-high
-
   pub share-byte : (v : ℕ) → v < 2 ^ y .head .m → Fits w8 v
   share-byte v h = record { fits = let q : 2 ^ y .head .m ≤ 2 ^ 6 = pow-mono (described d .bounds .m-high) in omega arith }
 
   module _ (j : ℕ) (h : j < y .head .s) where
     pub place-of-five : j < 5
-    place-of-five = omega (arith, few-shares)
+    place-of-five = omega (arith, shares-high f y d)
 
     pub turn-fits : Fits w64 (j + 1)
-    turn-fits = record { fits = omega (arith, few-shares) }
+    turn-fits = record { fits = omega (arith, shares-high f y d) }
 
     pub out-more : (ls : List (List ℕ)) (x v : ℕ) (out : List ℕ) → FilledBelow (y .head .m) ls x j out → v ≡ component (y .head .m) ls j x
         → FilledBelow (y .head .m) ls x (j + 1) (set out j v)
@@ -121,7 +116,7 @@ module _ (f : List ℕ) (y : Layout) (d : Describes f y) where
   out-end ls x j out l g a b e =
       let z : j ≡ y .head .s = omega arith in
       g .is ∙ ap (λ (k : ℕ). tabulate k (λ i. component (y .head .m) ls i x) ++ drop k fiveZeros) z
-      ∙ unpacked-filled (y .head .m) (y .head .s) (output ls x) few-shares ∙ ap (λ (q : ℕ). unpacked (y .head .m) (y .head .s) (output ls q)) e
+      ∙ unpacked-filled (y .head .m) (y .head .s) (output ls x) (shares-high f y d) ∙ ap (λ (q : ℕ). unpacked (y .head .m) (y .head .s) (output ls q)) e
 
 -- ---- `run`: y is what was read of the file f, b whether the shares fit, v what is answered
 
@@ -146,11 +141,11 @@ module _ (f : List ℕ) (y : Layout) (a : Answers f y) (z : y .reason ≡ 0) whe
     run-start h n =
         let d = a .layout z in
         let u = sym eb ∙ not-false b h in
-        record { describes = d; fit = u; sent = sent-start _ _ _ l (few-shares f y d) n u }
+        record { describes = d; fit = u; sent = sent-start _ _ _ l (shares-high f y d) n u }
 
 module _ (f : List ℕ) (y : Layout) (l at : List ℕ) (t : ℕ) (p : RunTo f y l at t) where
   pub run-fits : sharesFit (y .head .m) (y .head .s) at ≡ true
-  run-fits = sent-fits _ _ _ _ (few-shares f y (p .describes)) _ _ (p .sent)
+  run-fits = sent-fits _ _ _ _ (shares-high f y (p .describes)) _ _ (p .sent)
 
   pub run-end : t ≤ y .head .k → y .head .k ≤ t → record { reason = 0; shares = at } ≡ running f l
   run-end a b = sent-end f l at y (p .describes) t (omega arith) (p .fit) (p .sent)
@@ -160,4 +155,4 @@ module _ (f : List ℕ) (y : Layout) (l at : List ℕ) (t : ℕ) (p : RunTo f y 
   run-more h next e =
       let d = p .describes in
       let u = subst (λ (k : ℕ). t < k) (sym (stages-length f y d)) h in
-      record { describes = d; fit = p .fit; sent = sent-next _ _ _ _ (few-shares f y d) _ t (p .sent) next u (lists-length f y d t h) e }
+      record { describes = d; fit = p .fit; sent = sent-next _ _ _ _ (shares-high f y d) _ t (p .sent) next u (lists-length f y d t h) e }

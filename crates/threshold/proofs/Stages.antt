@@ -1,6 +1,6 @@
 -- Component functions that are correct for a permutation carry sharings; they are uniform exactly when no output sharing is met twice, and exactly when
 -- they have the count in document 003. Non-complete: what component j gives is a function of its setting. Assumes nothing.
-use mathlib.Core.Path.{_≡_, sym, ap, _∙_, subst}
+use mathlib.Core.Path.{_≡_, sym, _∙_, subst}
 use mathlib.Core.Logic.{_↔_}
 use mathlib.Core.List.{List}
 use Prim.Native.Nat.{ℕ, _*_, _^_, _<_}
@@ -11,7 +11,7 @@ use Rattle.anf.specs.Tables.{entry, Permutation}
 use Rattle.design.specs.Design.{Stage, StageFits, TableFits}
 use Rattle.threshold.specs.Sharing.{share, sum, setting, putShare}
 use Rattle.threshold.specs.Stages.{output, component, Correct, Ignores, Uniform, CountedUniform}
-use Rattle.threshold.proofs.Sharing.{sum-lt, sum-shares, share-lt, with-other}
+use Rattle.threshold.proofs.Sharing.{sum-lt, sum-shares}
 use Rattle.threshold.proofs.Output.{output-lt}
 use Rattle.threshold.proofs.Carried.{Carries, even→injective, injective→even, even→counted, counted→even}
 use Rattle.threshold.proofs.Tests.{even→uniform, uniform→even}

@@ -1,7 +1,7 @@
 -- `judge_design` meets its contract: each way out is a law of `Deciding`, whose premises `search` finds among what is known there.
 use borrow.Author.Needs.{needs}
 use Rattle.checker.proofs.Deciding.{box-repeated, box-repeated-after, no-room, no-room-after, chain-answers, chain-after}
-use Rattle.checker.proofs.Agreeing.{few-bits}
+use Rattle.design.proofs.Found.{bits-high}
 use Rattle.checker.proofs.Zeroed.{room-stays, stays-zeroed}
 use Rattle.checker.proofs.judge_design.Statement.{statement}
 use Rattle.checker.proofs.judge_design.Tie as tie
@@ -14,7 +14,7 @@ judge-design-spec =
     (λ c κs. search needs)
     (λ c κs. search needs)
     (λ c. search (box-repeated, box-repeated-after))
-    (λ c κs. search few-bits)
+    (λ c κs. search bits-high)
     (λ c κs. search needs)
     (λ c. search (no-room, no-room-after))
     (λ c κs. search needs)

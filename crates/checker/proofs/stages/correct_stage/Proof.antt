@@ -1,6 +1,7 @@
 -- `correct_stage` meets its contract: the lists and the table that it hands on are those of the stage.
 use borrow.Author.Needs.{needs}
-use Rattle.checker.proofs.Agreeing.{some-bits, few-wide, within-limits, table-points, lists-stand, stage-agrees}
+use Rattle.design.proofs.Found.{limits, width-high}
+use Rattle.checker.proofs.Agreeing.{some-bits, table-points, lists-stand, stage-agrees}
 use Rattle.checker.proofs.stages.correct_stage.Statement.{statement}
 use Rattle.checker.proofs.stages.correct_stage.Tie as tie
 
@@ -9,7 +10,7 @@ correct-stage-spec =
     tie.close
     (tie.spec
     (λ c κs. search needs)
-    (λ c κs. search (within-limits, some-bits))
+    (λ c κs. search (limits, some-bits))
     (λ c. search needs)
-    (λ c κs. search (lists-stand, few-wide, table-points))
+    (λ c κs. search (lists-stand, width-high, table-points))
     (λ c. search stage-agrees))

@@ -2,7 +2,8 @@
 use borrow.Author.Needs.{needs}
 use Rattle.checker.proofs.Zeroed.{room-stays}
 use Rattle.checker.proofs.Marking.{cleared-again}
-use Rattle.checker.proofs.Agreeing.{some-bits, enough-bits, few-bits, bits-fit, within-limits, none-marked, lists-stand, stage-meets}
+use Rattle.design.proofs.Found.{limits, bits-high}
+use Rattle.checker.proofs.Agreeing.{some-bits, enough-bits, bits-fit, none-marked, lists-stand, stage-meets}
 use Rattle.checker.proofs.stages.meets_twice.Statement.{statement}
 use Rattle.checker.proofs.stages.meets_twice.Tie as tie
 
@@ -10,9 +11,9 @@ pub meets-twice-spec : {M : Type 1} → statement M
 meets-twice-spec =
     tie.close
     (tie.spec
-    (λ c κs. search (within-limits, some-bits))
+    (λ c κs. search (limits, some-bits))
     (λ c. search bits-fit)
-    (λ c κs. search few-bits)
+    (λ c κs. search bits-high)
     (λ c κs. search needs)
     (λ c. search needs)
     (λ c κs. search (lists-stand, enough-bits, room-stays, none-marked))

@@ -3,8 +3,8 @@ use mathlib.Core.Path.{_≡_}
 use Prim.Native.Nat.{_-_, _≤_}
 use native.Mathlib.Omega.{arith}
 use borrow.Author.Needs.{needs}
+use Rattle.design.proofs.Found.{width-high}
 use Rattle.threshold.proofs.Dependence.{own-place}
-use Rattle.checker.proofs.Agreeing.{few-wide}
 use Rattle.checker.proofs.Judging.{NoTerm, NoList, NoComponent, no-term-yet, no-list-yet, no-component-yet, no-term-more, no-list-more, no-component-more, offending-found, offending-none, few-shares, place-fits, row-fits}
 use Rattle.checker.proofs.stages.offending.Statement.{statement}
 use Rattle.checker.proofs.stages.offending.Tie as tie
@@ -38,7 +38,7 @@ offending-spec =
     Inv-components
     μ-components
     (λ c. search (arith, no-component-yet))
-    (λ c κs. search (few-wide, few-shares))
+    (λ c κs. search (width-high, few-shares))
     (λ c. search (arith, no-list-yet))
     (λ c. search row-fits)
     (λ c. search place-fits)

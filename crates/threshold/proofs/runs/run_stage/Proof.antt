@@ -4,7 +4,8 @@ use native.Mathlib.Omega.{arith}
 use borrow.Author.Needs.{needs}
 use Rattle.design.specs.Design.{stageOf}
 use Rattle.design.specs.Reading.{meaning}
-use Rattle.threshold.proofs.Sending.{FilledBelow, few-bits, few-shares, out-start, share-byte, place-of-five, turn-fits, out-more, out-end}
+use Rattle.design.proofs.Found.{shares-high, bits-high}
+use Rattle.threshold.proofs.Sending.{FilledBelow, out-start, share-byte, place-of-five, turn-fits, out-more, out-end}
 use Rattle.threshold.proofs.runs.run_stage.Statement.{statement}
 use Rattle.threshold.proofs.runs.run_stage.Tie as tie
 
@@ -20,7 +21,7 @@ run-stage-spec =
     (tie.spec
     Inv-loop
     μ-loop
-    (λ c κs. search (few-bits, few-shares))
+    (λ c κs. search (bits-high, shares-high))
     (λ c. search (arith, out-start))
     (λ c κs. search needs)
     (λ c. search share-byte)
