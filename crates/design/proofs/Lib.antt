@@ -14,6 +14,8 @@ pub mod Written
 pub mod Taking
 pub mod TermBytes
 pub mod Overwriting
+pub mod Putting
+pub mod Producing
 pub mod Formed
 pub mod Answered
 pub mod StageLists

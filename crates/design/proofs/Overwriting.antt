@@ -8,11 +8,12 @@ use native.Mathlib.Numerals.{add-one, towards-suc}
 use native.Mathlib.Nat.{zero-add}
 use lib.ListN.{length, getD, set, take, drop, length-append, length-set}
 use lib.Seq.{sets, sets-eq, paste, paste-zero, paste-suc, take-length, length-take-le, drop-drop, take-at, drop-at, take-append-seam, drop-append-seam, drop-append-add, length-paste}
-use Rattle.finite.specs.Tests.{total}
 use Rattle.finite.proofs.Counting.{total-congr}
-use Rattle.design.specs.Bytes.{termBytes, overwrite}
+use Rattle.finite.specs.Tests.{total}
+use Rattle.design.specs.Bytes.{termBytes}
+use Rattle.design.specs.inside.Overwriting.{overwrite}
 use Rattle.design.specs.Design.{Stage, Design, noStage, stageOf}
-use Rattle.design.specs.Encode.{join, recordHead, aRecord, headBody, stageBytes, encode}
+use Rattle.design.specs.Encode.{join, recordHead, aRecord, headBody, listRecord, endRecord, stageBytes, encode}
 use Rattle.design.proofs.TermBytes.{length-termBytes}
 
 -- straight-line stores
@@ -141,19 +142,21 @@ join-length k xs d = rw (take-length xs) at (joined-length k xs d (length xs) (o
 pub stage-length : (g : Stage) → length (stageBytes g) ≡ 4 + length (g .table) + total (length (g .lists)) (λ l. 4 + 4 * length (getD (g .lists) l []))
 unfolding stageBytes
 stage-length g =
-    let a = length-append (aRecord 2 (g .table)) (join (map (λ ts. aRecord 3 (termBytes ts)) (g .lists))) in
+    let a = length-append (aRecord 2 (g .table)) (join (map listRecord (g .lists))) in
     let b = record-length 2 (g .table) in
-    let c = join-length (λ ts. aRecord 3 (termBytes ts)) (g .lists) [] in
-    let e = total-congr (length (g .lists)) (λ l. length (aRecord 3 (termBytes (getD (g .lists) l [])))) (λ l. 4 + 4 * length (getD (g .lists) l [])) (λ l h. record-length 3 _ ∙ ap (λ (x : ℕ). 4 + x) (length-termBytes _)) in
+    let c = join-length listRecord (g .lists) [] in
+    let e =
+    total-congr (length (g .lists)) (λ l. length (listRecord (getD (g .lists) l []))) (λ l. 4 + 4 * length (getD (g .lists) l []))
+    (λ l h. record-length 3 _ ∙ ap (λ (x : ℕ). 4 + x) (length-termBytes _)) in
     omega arith
 
 -- a file: the head, the box, the stages, the end
 pub encode-length : (d : Design) → length (encode d) ≡ 7 + (4 + length (d .box)) + total (length (d .stages)) (λ t. length (stageBytes (stageOf d t))) + 4
 unfolding encode
 encode-length d =
-    let a = length-append (aRecord 1 (headBody d)) (aRecord 2 (d .box) ++ (join (map stageBytes (d .stages)) ++ aRecord 4 [])) in
-    let b = length-append (aRecord 2 (d .box)) (join (map stageBytes (d .stages)) ++ aRecord 4 []) in
-    let c = length-append (join (map stageBytes (d .stages))) (aRecord 4 []) in
+    let a = length-append (aRecord 1 (headBody d)) (aRecord 2 (d .box) ++ (join (map stageBytes (d .stages)) ++ endRecord)) in
+    let b = length-append (aRecord 2 (d .box)) (join (map stageBytes (d .stages)) ++ endRecord) in
+    let c = length-append (join (map stageBytes (d .stages))) endRecord in
     let p = record-length 1 (headBody d) in
     let q = record-length 2 (d .box) in
     let r = record-length 4 [] in

@@ -1,7 +1,7 @@
--- Bytes of a file: numbers of two and of four bytes, little-endian, lists of terms, and writing over a part.
+-- Bytes of a file: numbers of two and of four bytes, little-endian, and lists of terms.
 use Prim.Native.Nat.{ℕ, _+_, _*_, _/_, _%_, _<_}
 use mathlib.Core.List.{List, [], _∷_, _++_}
-use lib.ListN.{length, getD, take, drop}
+use lib.ListN.{getD}
 
 -- a list of bytes
 abbrev pub Bytes : List ℕ → Type 0
@@ -43,7 +43,3 @@ terms (a ∷ []) = []
 terms (a ∷ b ∷ []) = []
 terms (a ∷ b ∷ c ∷ []) = []
 terms (a ∷ b ∷ c ∷ d ∷ l) = little a b c d ∷ terms l
-
--- l with the bytes b written over it from a place on
-unfoldable pub overwrite : List ℕ → ℕ → List ℕ → List ℕ
-overwrite l at b = take at l ++ b ++ drop (at + length b) l

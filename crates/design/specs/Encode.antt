@@ -22,10 +22,18 @@ aRecord kind body = recordHead (length body) kind ++ body
 abbrev pub headBody : Design → List ℕ
 headBody d = d .m ∷ d .s ∷ d .k ∷ []
 
+-- the record of a list
+abbrev pub listRecord : List ℕ → List ℕ
+listRecord ts = aRecord 3 (termBytes ts)
+
+-- the record that ends a file
+abbrev pub endRecord : List ℕ
+endRecord = aRecord 4 []
+
 -- a stage: its table, then its lists
 unfoldable pub stageBytes : Stage → List ℕ
-stageBytes g = aRecord 2 (g .table) ++ join (map (λ ts. aRecord 3 (termBytes ts)) (g .lists))
+stageBytes g = aRecord 2 (g .table) ++ join (map listRecord (g .lists))
 
 -- the file: the head, the box, the stages, the end
 unfoldable pub encode : Design → List ℕ
-encode d = aRecord 1 (headBody d) ++ (aRecord 2 (d .box) ++ (join (map stageBytes (d .stages)) ++ aRecord 4 []))
+encode d = aRecord 1 (headBody d) ++ (aRecord 2 (d .box) ++ (join (map stageBytes (d .stages)) ++ endRecord))

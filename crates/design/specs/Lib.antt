@@ -3,7 +3,9 @@ pub mod Limits
 pub mod Design
 pub mod Bytes
 pub mod Encode
+pub mod Writing
 pub mod Reading
 pub mod Layout
 pub mod StageLists
 pub mod Bench
+pub mod inside

@@ -100,11 +100,11 @@ unfolding total
 total-times zero c f = sym (mul-zero c)
 total-times (suc n) c f = ap (λ (x : ℕ). c * f n + x) (total-times n c f) ∙ sym (mul-add c (f n) (total n f))
 
--- n ones
-pub ones-each : (n : ℕ) → total n (λ j. 1) ≡ n
+-- the same number n times
+pub total-const : (n c : ℕ) → total n (λ i. c) ≡ n * c
 unfolding total
-ones-each zero = refl
-ones-each (suc n) = omega (arith, ones-each n)
+total-const zero c = sym (zero-mul c)
+total-const (suc n) c = omega (arith, total-const n c, suc-mul n c)
 
 -- ---- counts. A test's answer is an equation, `p i ≡ true`.
 
@@ -137,6 +137,16 @@ count-none n p h = total-zero n _ (λ i l. bit-not (p i) (h i l))
 -- one place passes and no other: the count is 1
 pub count-one : (n : ℕ) (p : ℕ → Bool) (k : ℕ) → k < n → p k ≡ true → ((i : ℕ) → i < n → p i ≡ true → i ≡ k) → count n p ≡ 1
 count-one n p k l e u = total-one n _ k l (λ i b ne. bit-not (p i) (λ q. ne (u i b q))) ∙ bit-true e
+
+-- one number at most is k
+pub one-at-most : (n k : ℕ) → count n (λ c. eqb k c) ≤ 1
+unfolding total
+one-at-most zero k = zero-le
+one-at-most (suc n) k = at (one-at-most n k) (eqb k n) refl
+  where
+    at : count n (λ c. eqb k c) ≤ 1 → (b : Bool) → eqb k n ≡ b → bit b + count n (λ c. eqb k c) ≤ 1
+    at h true e = omega (arith, count-none n (λ c. eqb k c) (λ i l q. omega (arith, eqb-true k i q, eqb-true k n e)))
+    at h false e = omega arith
 
 -- a count that is not 0 has a place
 pub count-some : (n : ℕ) (p : ℕ → Bool) → 1 ≤ count n p → (k : ℕ) × (k < n) × (p k ≡ true)

@@ -136,6 +136,15 @@ has-low k a r i l h =
         sym (ap (λ (y : ℕ). x % 2 ^ y / 2 ^ i % 2) d ∙ ap (λ (y : ℕ). y % 2) (field x (k - suc i + 1) i)
         ∙ mod-mod-pow (x / 2 ^ i) (k - suc i) 1)
 
+-- the bit above a block of low bits
+pub has-top : (k r : ℕ) → r < 2 ^ k → has (1 * 2 ^ k + r) k ≡ true
+has-top k r l = bit-has (1 * 2 ^ k + r) k (ap (λ (x : ℕ). x % 2) (high 1 k l))
+
+-- a set has no element beyond its bits
+pub has-beyond : (x k : ℕ) → x < 2 ^ k → has x k ≡ false
+unfolding has
+has-beyond x k l = ap (λ (r : ℕ). eqb (r % 2) 1) (div-eq-of-lt l)
+
 -- ---- one element more
 
 or-bit : (a b i : ℕ) → bitOr a b / 2 ^ i % 2 ≡ bitOr (a / 2 ^ i % 2) (b / 2 ^ i % 2)

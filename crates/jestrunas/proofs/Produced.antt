@@ -15,10 +15,10 @@ use Rattle.checker.specs.declared.Verdict.{Verdict}
 use Rattle.checker.proofs.Exactly.{explained}
 use Rattle.producer.specs.Direct.{directStage, directSharing, Box}
 use Rattle.producer.specs.Producing.{produced}
-use Rattle.producer.proofs.Theorems.{Sound, produced-sound}
+use Rattle.producer.proofs.Theorems.{ProducedSound, produced-sound}
 
 module _ (m s n : ℕ) (t : List ℕ) (b : Box m s t) (low : degree m (entry t) < s) (room : workspaceFor (directSharing m s t) ≤ n) where
-  sound : Sound m s t
+  sound : ProducedSound m s t
   sound = produced-sound m s t b low
 
   same : (e : Design) → reading (produced m s t) ≡ means e → e ≡ directSharing m s t

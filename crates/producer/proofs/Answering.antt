@@ -1,7 +1,8 @@
 -- What producing answers and leaves, one law for each way out.
 use mathlib.Core.Path.{_≡_, refl, sym, ap, ap₂, _∙_, subst}
+use mathlib.Core.Logic.{_≢_, ⊎-elim}
 use mathlib.Core.Bool.{Bool, true, false, not, _&&_}
-use mathlib.Core.List.{List, _++_}
+use mathlib.Core.List.{List, [], _∷_, _++_}
 use Prim.Native.Nat.{ℕ, _+_, _-_, _*_, _/_, _%_, _^_, _≤_, _<_}
 use native.Mathlib.Omega.{arith}
 use lib.Pow.{pow-mono}
@@ -12,7 +13,9 @@ use borrow.Author.Tests.{eq-eqb, ne-eqb, lt-ltb, le-ltb, le-leb, lt-leb}
 use Rattle.finite.specs.Tests.{pick, tabulate}
 use Rattle.finite.specs.Sets.{has}
 use Rattle.finite.specs.Maps.{repeats}
-use Rattle.finite.proofs.Testing.{pick-true, pick-false, any-congr, tabulate-congr, tabulate-length, tabulate-at}
+use Rattle.finite.specs.Faults.{firstFault}
+use Rattle.finite.proofs.Faults.{fault-here, fault-past, fault-none}
+use Rattle.finite.proofs.Testing.{pick-true, pick-false, any-congr, tabulate-congr, tabulate-length, tabulate-at, true-or-false, not-true-false}
 use Rattle.anf.specs.NormalForm.{subsetSum, degree}
 use Rattle.anf.specs.Tables.{entriesBelow, entry}
 use Rattle.anf.specs.inside.Words.{wordsDegree}
@@ -20,18 +23,16 @@ use Rattle.anf.specs.Transform.{transformAfter, transformed}
 use Rattle.anf.proofs.Passing.{passing-congr}
 use Rattle.anf.proofs.Answers.{input-answer, transformed-degree}
 use Rattle.design.specs.Limits.{greatestTerms, broken}
-use Rattle.design.specs.Bytes.{overwrite}
-use Rattle.design.specs.Layout.{checked}
-use Rattle.design.specs.declared.Head.{Head}
-use Rattle.design.specs.declared.Checked.the-variants.{Good, Beyond}
-use Rattle.design.proofs.Limits.{bounds}
-use Rattle.design.proofs.Overwriting.{overwrite-front}
+use Rattle.design.specs.Writing.{noFile}
+use Rattle.design.specs.inside.Overwriting.{overwrite}
+use Rattle.design.specs.Layout.{checked, refusalOf}
+use Rattle.design.proofs.Limits.{bounds, refusal-checked}
+use Rattle.design.proofs.Producing.{refusal-answer, refusal-after, success-answer, success-written}
 use Rattle.producer.specs.Direct.{isProduct, chosen, componentFor, stands, directList, directLists, directStage, directSharing}
 use Rattle.producer.specs.Producing.{produced, producedReason, producing, outputAfter}
-use Rattle.producer.specs.Expanding.{Permutes, Ready, Follows, Gathers, oneStageFile, listRecords, ruleTables, refused}
-use Rattle.producer.specs.declared.Produced.{Produced}
+use Rattle.producer.specs.inside.Expanding.{TableTested, DegreeTested, Follows, Gathers, oneStageFile, ruleTables}
+use Rattle.design.specs.declared.Produced.{Produced}
 use Rattle.producer.proofs.Gathering.{rule-follows}
-use Rattle.producer.proofs.Writing.{file-length}
 
 -- ---- the answer from the reason
 
@@ -45,75 +46,63 @@ pub answered : {m s : ℕ} {t out : List ℕ} {r : Produced} {after : List ℕ} 
 answered a = (a .answer, a .output)
 
 module _ (m s : ℕ) (t out : List ℕ) where
-  pub refusal-answer : (r : Produced) (k : ℕ) → r ≡ refused k → 0 < k → producedReason m s t (length out) ≡ k → Answered m s t out r out
+  pub refuses : (r : Produced) (k : ℕ) → r ≡ noFile k → 0 < k → producedReason m s t (length out) ≡ k → Answered m s t out r out
   unfolding producing outputAfter
-  refusal-answer r k er p e =
-      let no : eqb (producedReason m s t (length out)) 0 ≡ false = ne-eqb (producedReason m s t (length out)) 0 (λ z. omega arith) in
-      record { answer = rw (er, no, e) refl; output = sym (pick-false (eqb (producedReason m s t (length out)) 0) _ out no) }
+  refuses r k er p e =
+      let n : producedReason m s t (length out) ≢ 0 = λ z. omega arith in
+      record { answer = er ∙ ap noFile (sym e) ∙ refusal-answer _ (produced m s t) n; output = sym (refusal-after _ (produced m s t) n out) }
 
-  pub success-answer : (size : ℕ) (after : List ℕ) → size ≡ length (produced m s t) → producedReason m s t (length out) ≡ 0 → after ≡ overwrite out 0 (produced m s t)
+  pub succeeds : (size : ℕ) (after : List ℕ) → size ≡ length (produced m s t) → producedReason m s t (length out) ≡ 0 → after ≡ overwrite out 0 (produced m s t)
       → Answered m s t out (record { reason = 0; length = size }) after
   unfolding producing outputAfter
-  success-answer size after es e w =
-      let yes′ : eqb (producedReason m s t (length out)) 0 ≡ true = eq-eqb (producedReason m s t (length out)) 0 e in
-      record { answer = rw (es, yes′, e) refl; output = w ∙ overwrite-front out (produced m s t) ∙ sym (pick-true (eqb (producedReason m s t (length out)) 0) _ out yes′) }
+  succeeds size after es e w = record { answer = rw es (success-answer _ (produced m s t) e); output = w ∙ success-written _ (produced m s t) e out }
 
 -- ---- the reasons in their order
 
+pub head-within : (m s : ℕ) → refusalOf (checked m s 1) ≡ 0 → broken m s 1 ≡ false
+head-within m s e = not-true-false (broken m s 1) (λ b. let z : 4 ≡ 0 = sym (refusal-checked m s 1 ∙ pick-true (broken m s 1) 4 0 b) ∙ e in omega arith)
+
+head-broken : (m s : ℕ) → refusalOf (checked m s 1) ≢ 0 → broken m s 1 ≡ true
+head-broken m s n = ⊎-elim (λ t. t) (λ f. absurd (n (refusal-checked m s 1 ∙ pick-false (broken m s 1) 4 0 f))) (true-or-false (broken m s 1))
+
 module _ (m s : ℕ) (t : List ℕ) (room : ℕ) where
-  pub reason-beyond : broken m s 1 ≡ true → producedReason m s t room ≡ 4
+  pub reason-head : refusalOf (checked m s 1) ≢ 0 → producedReason m s t room ≡ refusalOf (checked m s 1)
   unfolding producedReason
-  reason-beyond b = pick-true (broken m s 1) 4 _ b
+  reason-head n = fault-here _ _ _ 0 (head-broken m s n)
 
   module _ (b : broken m s 1 ≡ false) where
     pub reason-size : (length t ≡ 2 ^ m → ⊥) → producedReason m s t room ≡ 3
     unfolding producedReason
-    reason-size z = pick-false (broken m s 1) 4 _ b ∙ pick-true (not (eqb (length t) (2 ^ m))) 3 _ (ap not (ne-eqb _ _ z))
+    reason-size z = fault-past _ _ _ 0 b ∙ fault-here _ 3 _ 0 (ap not (ne-eqb _ _ z))
 
     module _ (z : length t ≡ 2 ^ m) where
-      past-size : producedReason m s t room
-          ≡ pick (not (entriesBelow t (2 ^ m))) 5 (pick (repeats (2 ^ m) (entry t)) 8 (pick (leb s (degree m (entry t))) 16 (pick (ltb room (length (produced m s t))) 17 0)))
-      unfolding producedReason
-      past-size = pick-false (broken m s 1) 4 _ b ∙ pick-false (not (eqb (length t) (2 ^ m))) 3 _ (ap not (eq-eqb _ _ z))
+      size-right : not (eqb (length t) (2 ^ m)) ≡ false
+      size-right = ap not (eq-eqb _ _ z)
 
       pub reason-entry : entriesBelow t (2 ^ m) ≡ false → producedReason m s t room ≡ 5
-      reason-entry e = past-size ∙ pick-true (not (entriesBelow t (2 ^ m))) 5 _ (ap not e)
+      unfolding producedReason
+      reason-entry e = fault-past _ _ _ 0 b ∙ fault-past _ 3 _ 0 size-right ∙ fault-here _ 5 _ 0 (ap not e)
 
       module _ (e : entriesBelow t (2 ^ m) ≡ true) where
         pub reason-repeat : repeats (2 ^ m) (entry t) ≡ true → producedReason m s t room ≡ 8
-        reason-repeat r = past-size ∙ pick-false (not (entriesBelow t (2 ^ m))) 5 _ (ap not e) ∙ pick-true (repeats (2 ^ m) (entry t)) 8 _ r
+        unfolding producedReason
+        reason-repeat r = fault-past _ _ _ 0 b ∙ fault-past _ 3 _ 0 size-right ∙ fault-past _ 5 _ 0 (ap not e) ∙ fault-here _ 8 _ 0 r
 
-        module _ (r : repeats (2 ^ m) (entry t) ≡ false) where
-          pub permutes : Permutes m s t room
-          permutes = record {
-            limits = b;
-            size = z;
-            below = e;
-            passed = past-size ∙ pick-false (not (entriesBelow t (2 ^ m))) 5 _ (ap not e) ∙ pick-false (repeats (2 ^ m) (entry t)) 8 _ r;
-          }
+        pub table-tested : repeats (2 ^ m) (entry t) ≡ false → TableTested m s t room
+        unfolding producedReason
+        table-tested r = record {
+          limits = b;
+          size = z;
+          below = e;
+          passed = fault-past _ _ _ 0 b ∙ fault-past _ 3 _ 0 size-right ∙ fault-past _ 5 _ 0 (ap not e) ∙ fault-past _ 8 _ 0 r;
+        }
 
-  module _ (p : Permutes m s t room) where
+  module _ (p : TableTested m s t room) where
     pub reason-degree : s ≤ degree m (entry t) → producedReason m s t room ≡ 16
-    reason-degree d = p .passed ∙ pick-true (leb s (degree m (entry t))) 16 _ (le-leb _ _ d)
+    reason-degree d = p .passed ∙ fault-here _ 16 _ 0 (le-leb _ _ d)
 
-    reason-last : degree m (entry t) < s → producedReason m s t room ≡ pick (ltb room (length (produced m s t))) 17 0
-    reason-last d = p .passed ∙ pick-false (leb s (degree m (entry t))) 16 _ (lt-leb _ _ d)
-
--- ---- the head
-
-pub head-good : (m s : ℕ) (h : Head) → Good h ≡ checked m s 1 → broken m s 1 ≡ false
-head-good m s h e = go (broken m s 1) e
-  where
-    go : (b : Bool) → Good h ≡ pick b Beyond (Good (record { m = m; s = s; k = 1 })) → b ≡ false
-    go false q = refl
-    go true q = let z : _≡_ {A = ℕ} 0 1 = cc in absurd (omega arith)
-
-pub head-beyond : (m s : ℕ) → Beyond ≡ checked m s 1 → broken m s 1 ≡ true
-head-beyond m s e = go (broken m s 1) e
-  where
-    go : (b : Bool) → Beyond ≡ pick b Beyond (Good (record { m = m; s = s; k = 1 })) → b ≡ true
-    go true q = refl
-    go false q = let z : _≡_ {A = ℕ} 0 1 = cc in absurd (omega arith)
+    pub reason-last : degree m (entry t) < s → producedReason m s t room ≡ firstFault ((ltb room (length (produced m s t)), 17) ∷ []) 0
+    reason-last d = p .passed ∙ fault-past _ 16 _ 0 (lt-leb _ _ d)
 
 -- ---- the coefficient words
 
@@ -134,7 +123,7 @@ module _ (m s : ℕ) (t out : List ℕ) (b : broken m s 1 ≡ false) (z : length
       sym (getD-take (2 ^ m) (transformAfter m t out) u 0 l) ∙ ap (λ (x : List ℕ). getD x u 0) words-first
       ∙ tabulate-at (2 ^ m) (subsetSum m (λ v. getD t v 0)) u 0 l
 
-module _ (m s : ℕ) (t : List ℕ) (room : ℕ) (p : Permutes m s t room) (out words : List ℕ) (w : words ≡ transformAfter m t out) (size : length out ≡ 64) where
+module _ (m s : ℕ) (t : List ℕ) (room : ℕ) (p : TableTested m s t room) (out words : List ℕ) (w : words ≡ transformAfter m t out) (size : length out ≡ 64) where
   words-room : 2 ^ m ≤ length out
   words-room = omega (arith, pow-mono (bounds m s 1 (p .limits) .m-high))
 
@@ -144,7 +133,7 @@ module _ (m s : ℕ) (t : List ℕ) (room : ℕ) (p : Permutes m s t room) (out 
       let k : length t - 0 ≡ 2 ^ m = omega (arith, p .size) in
       ap₂ (λ (x : ℕ) (y : List ℕ). wordsDegree (take x y)) k w ∙ words-degree-is m s t out (p .limits) (p .size) (p .below) words-room
 
-  pub found-ready : degree m (entry t) < s → length words ≡ length out → Ready m s t words room
+  pub found-ready : degree m (entry t) < s → length words ≡ length out → DegreeTested m s t words room
   found-ready d l = record {
     limits = p .limits;
     size = p .size;
@@ -161,22 +150,19 @@ lists-congr m s f g h =
     tabulate-congr (m * s) _ _ (λ i l. passing-congr (2 ^ (m * s)) _ _ (λ p k.
     ap (λ (x : Bool). x && eqb (componentFor s (chosen m s p)) (i / m)) (any-congr (2 ^ m) _ _ (λ u j. ap (λ (w : ℕ). isProduct m s u p && has w (i % m)) (h u j)))))
 
-module _ (m s : ℕ) (t words : List ℕ) (room : ℕ) (r : Ready m s t words room) where
+module _ (m s : ℕ) (t words : List ℕ) (room : ℕ) (r : DegreeTested m s t words room) where
   pub file-is : oneStageFile m s t (directLists m s (λ u. getD words u 0)) ≡ produced m s t
   unfolding oneStageFile produced directSharing directStage
   file-is = ap (oneStageFile m s t) (lists-congr m s (λ u. getD words u 0) (subsetSum m (entry t)) (r .coefficients))
-
-  pub file-size : (n : ℕ) → n ≡ length (listRecords (directLists m s (λ u. getD words u 0))) → 19 + 2 * length t + n ≡ length (produced m s t)
-  file-size n e = ap (λ (k : ℕ). 19 + 2 * length t + k) e ∙ sym (file-length m s t (directLists m s (λ u. getD words u 0))) ∙ ap length file-is
 
   pub ready-gathers : (rule : List ℕ) (size : ℕ) → Follows s rule → greatestTerms ≤ size → Gathers rule m s (length words) size
   ready-gathers rule size f g = record { limits = r .limits; follows = f; words-all = r .words-all; room = g }
 
   pub short : room < length (produced m s t) → producedReason m s t room ≡ 17
-  short l = r .passed ∙ pick-true (ltb room (length (produced m s t))) 17 0 (lt-ltb _ _ l)
+  short l = r .passed ∙ fault-here _ 17 _ 0 (lt-ltb _ _ l)
 
   pub enough : length (produced m s t) ≤ room → producedReason m s t room ≡ 0
-  enough l = r .passed ∙ pick-false (ltb room (length (produced m s t))) 17 0 (le-ltb _ _ l)
+  enough l = r .passed ∙ fault-past _ 17 _ 0 (le-ltb _ _ l) ∙ fault-none 0
 
 -- ---- the part of the rule's tables
 

@@ -3,58 +3,20 @@ use mathlib.Core.Path.{_≡_, sym, ap, _∙_, subst}
 use mathlib.Core.Bool.{false}
 use mathlib.Core.List.{List, [], _∷_}
 use Prim.Native.Nat.{ℕ, _+_, _*_, _%_, _^_, _≤_, _<_}
-use native.Mathlib.Nat.{zero-add, mod-lt}
+use native.Mathlib.Nat.{mod-lt}
 use native.Mathlib.Omega.{arith}
 use lib.Pow.{pow-mono}
-use lib.ListN.{length, getD, take, length-take}
-use mir.Syntax.{w8, w64}
+use lib.ListN.{length}
+use mir.Syntax.{w64}
 use mir.Val.{Fits}
 use Rattle.design.specs.Limits.{greatestTerms, broken}
-use Rattle.design.specs.Bytes.{four, termBytes, overwrite}
-use Rattle.design.specs.Encode.{recordHead, aRecord}
+use Rattle.design.specs.Encode.{aRecord, endRecord}
+use Rattle.design.specs.inside.Overwriting.{overwrite, listRecords}
 use Rattle.design.proofs.Limits.{bounds}
-use Rattle.design.proofs.Overwriting.{overwrite-nil, overwrite-record, record-length}
-use Rattle.producer.specs.Expanding.{Gathers, tableRecords, listRecord, listRecords, oneStageFile}
-use Rattle.producer.proofs.Writing.{term-put, list-record, list-record-length, records-none, tables-length, file-records, file-length, runs-three}
-
--- ---- a record
-
-module _ (o₀ body : List ℕ) (at kind : ℕ) (h : at + length (aRecord kind body) ≤ length o₀) where
-  pub head-room : at + 4 ≤ length o₀
-  head-room = omega (arith, record-length kind body)
-
-  pub body-room : (o : List ℕ) → length o ≡ length o₀ → at + 4 + length body ≤ length o
-  body-room o e = omega (arith, record-length kind body)
-
-  pub record-put : (o o′ : List ℕ) → o ≡ overwrite o₀ at (recordHead (length body) kind) → o′ ≡ overwrite o (at + 4) body → o′ ≡ overwrite o₀ at (aRecord kind body)
-  record-put o o′ e e′ = e′ ∙ ap (λ (x : List ℕ). overwrite x (at + 4) body) e ∙ overwrite-record o₀ at kind body (omega arith)
-
-pub record-end : (body : List ℕ) (at kind : ℕ) → at + 4 + length body ≡ at + length (aRecord kind body)
-record-end body at kind = omega (arith, record-length kind body)
-
--- ---- the record of a list: o₁ is the output after its head
-
-pub no-term : (o : List ℕ) (at : ℕ) → o ≡ overwrite o at (termBytes [])
-unfolding termBytes
-no-term o at = sym (overwrite-nil o at)
-
-module _ (o₀ o₁ l : List ℕ) (at n : ℕ) (h : at + 4 + 4 * n ≤ length o₀) (e₁ : length o₁ ≡ length o₀) (o : List ℕ) (j : ℕ) (k : j < n) where
-  pub term-room : length o ≡ length o₁ → at + 4 + 4 * j + 4 ≤ length o
-  term-room e = omega arith
-
-  pub term-more : n ≤ length l → o ≡ overwrite o₁ (at + 4) (termBytes (take j l)) → (o′ : List ℕ) → o′ ≡ overwrite o (at + 4 + 4 * j) (four (getD l j 0))
-      → o′ ≡ overwrite o₁ (at + 4) (termBytes (take (j + 1) l))
-  term-more g e o′ e′ = e′ ∙ term-put o o₁ l (at + 4) j (omega arith) (omega arith) e
-
-pub list-end : (l : List ℕ) (at n : ℕ) → n ≤ length l → at + 4 + 4 * n ≡ at + length (listRecord (take n l))
-list-end l at n h = omega (arith, list-record-length (take n l), length-take n l)
-
-pub list-put : (o₀ o₁ o l : List ℕ) (at n j : ℕ) → at + 4 + 4 * n ≤ length o₀ → n ≤ length l → o₁ ≡ overwrite o₀ at (recordHead (4 * n) 3) → j ≤ n → n ≤ j
-    → o ≡ overwrite o₁ (at + 4) (termBytes (take j l)) → o ≡ overwrite o₀ at (listRecord (take n l))
-list-put o₀ o₁ o l at n j h g e₁ a b e =
-    let q : j ≡ n = omega arith in
-    e ∙ ap (λ (k : ℕ). overwrite o₁ (at + 4) (termBytes (take k l))) q ∙ ap (λ (x : List ℕ). overwrite x (at + 4) (termBytes (take n l))) e₁
-    ∙ list-record o₀ l at n g (omega arith)
+use Rattle.design.proofs.Overwriting.{overwrite-nil, record-length}
+use Rattle.design.proofs.Putting.{records-none, runs-three}
+use Rattle.producer.specs.inside.Expanding.{Gathers, tableRecords, oneStageFile}
+use Rattle.producer.proofs.Writing.{tables-length, file-records, file-length}
 
 -- ---- the lists: count is how many terms there are in list i
 
@@ -78,12 +40,8 @@ module _ (rule : List ℕ) (m s words room : ℕ) (g : Gathers rule m s words ro
     pub turn-fits : Fits w64 (i + 1)
     turn-fits = record { fits = omega (arith, bounds m s 1 (g .limits) .bits) }
 
-    module _ (size : ℕ) (b : size ≤ i * 16388) where
-      pub size-fits : Fits w64 (size + 4)
-      size-fits = record { fits = omega (arith, bounds m s 1 (g .limits) .bits) }
-
-      pub size-fits-more : (count : ℕ) → count ≤ greatestTerms → Fits w64 (size + 4 + 4 * count)
-      size-fits-more count l = record { fits = omega (arith, bounds m s 1 (g .limits) .bits) }
+    pub size-fits : (size count r : ℕ) → size ≤ i * 16388 → count ≤ greatestTerms → r ≡ 4 + 4 * count → Fits w64 (size + r)
+    size-fits size count r b l e = record { fits = omega (arith, bounds m s 1 (g .limits) .bits) }
 
   pub size-bound : (size i : ℕ) → size ≤ i * 16388 → i ≤ m * s → size ≤ 327760
   size-bound size i b h = omega (arith, bounds m s 1 (g .limits) .bits)
@@ -91,8 +49,11 @@ module _ (rule : List ℕ) (m s words room : ℕ) (g : Gathers rule m s words ro
 pub terms-fit : (count : ℕ) → count ≤ greatestTerms → Fits w64 (4 * count)
 terms-fit count l = record { fits = omega arith }
 
-pub bound-more : (size count i : ℕ) → size ≤ i * 16388 → count ≤ greatestTerms → size + 4 + 4 * count ≤ (i + 1) * 16388
-bound-more size count i b l = omega arith
+pub body-short : (count : ℕ) → count ≤ greatestTerms → 4 * count < 65536
+body-short count l = omega arith
+
+pub bound-more : (size count r i : ℕ) → size ≤ i * 16388 → count ≤ greatestTerms → r ≡ 4 + 4 * count → size + r ≤ (i + 1) * 16388
+bound-more size count r i b l e = omega arith
 
 pub terms-within : (rule : List ℕ) (m s words : ℕ) (list₀ list list′ : List ℕ) (count : ℕ) → Gathers rule m s words (length list₀) → length list ≡ length list₀ → length list′ ≡ length list
     → count ≤ greatestTerms → count ≤ length list′
@@ -107,49 +68,74 @@ none-before from = omega (arith, none-counted)
 -- ---- the records before the lists: o₁, o₂, o₃ is the output after each, p₁, p₂, p₃ where the next starts
 
 module _ (m s : ℕ) (limits : broken m s 1 ≡ false) where
-  pub width-byte : Fits w8 m
-  width-byte = record { fits = omega (arith, bounds m s 1 limits .m-high) }
+  pub width-byte : m < 256
+  width-byte = omega (arith, bounds m s 1 limits .m-high)
 
-  pub shares-byte : Fits w8 s
-  shares-byte = record { fits = omega (arith, bounds m s 1 limits .s-high) }
+  pub shares-byte : s < 256
+  shares-byte = omega (arith, bounds m s 1 limits .s-high)
 
   pub table-short : (t : List ℕ) → length t ≡ 2 ^ m → length t < 65536
   table-short t e = omega (arith, pow-mono (bounds m s 1 limits .m-high))
 
-module _ (m s : ℕ) (t o₀ : List ℕ) (h : length (tableRecords m s t) ≤ length o₀) where
-  pub head-fits : 0 + length (aRecord 1 (m ∷ s ∷ 1 ∷ [])) ≤ length o₀
-  head-fits = omega (arith, tables-length m s t, record-length 1 (m ∷ s ∷ 1 ∷ []))
+-- the head's record is as long whatever its numbers are
+module _ (m s : ℕ) (t o₀ : List ℕ) (h : length (tableRecords m s t) ≤ length o₀) (a b c : ℕ) where
+  pub head-fits : length (aRecord 1 (a ∷ b ∷ c ∷ [])) ≤ length o₀
+  head-fits = omega (arith, tables-length m s t, record-length 1 (a ∷ b ∷ c ∷ []), record-length 1 (m ∷ s ∷ 1 ∷ []))
 
-  module _ (o₁ : List ℕ) (p₁ : ℕ) (l₁ : length o₁ ≡ length o₀) (q₁ : p₁ ≡ 0 + length (aRecord 1 (m ∷ s ∷ 1 ∷ []))) where
+  module _ (o₁ : List ℕ) (p₁ : ℕ) (l₁ : length o₁ ≡ length o₀) (q₁ : p₁ ≡ length (aRecord 1 (a ∷ b ∷ c ∷ []))) where
     pub box-fits : p₁ + length (aRecord 2 t) ≤ length o₁
-    box-fits = omega (arith, tables-length m s t, record-length 1 (m ∷ s ∷ 1 ∷ []), record-length 2 t)
+    box-fits = omega (arith, tables-length m s t, record-length 1 (a ∷ b ∷ c ∷ []), record-length 1 (m ∷ s ∷ 1 ∷ []))
 
     pub stage-fits : (o₂ : List ℕ) (p₂ : ℕ) → length o₂ ≡ length o₁ → p₂ ≡ p₁ + length (aRecord 2 t) → p₂ + length (aRecord 2 t) ≤ length o₂
-    stage-fits o₂ p₂ l₂ q₂ = omega (arith, tables-length m s t, record-length 1 (m ∷ s ∷ 1 ∷ []), record-length 2 t)
+    stage-fits o₂ p₂ l₂ q₂ = omega (arith, tables-length m s t, record-length 1 (a ∷ b ∷ c ∷ []), record-length 1 (m ∷ s ∷ 1 ∷ []))
 
-module _ (m s : ℕ) (t : List ℕ) (p₁ p₂ : ℕ) (q₁ : p₁ ≡ 0 + length (aRecord 1 (m ∷ s ∷ 1 ∷ []))) (q₂ : p₂ ≡ p₁ + length (aRecord 2 t)) where
-  pub tables-end : (p₃ : ℕ) → p₃ ≡ p₂ + length (aRecord 2 t) → p₃ ≡ length (tableRecords m s t)
-  tables-end p₃ q₃ = omega (arith, tables-length m s t, record-length 1 (m ∷ s ∷ 1 ∷ []), record-length 2 t)
+module _ (m s : ℕ) (t : List ℕ) (p₁ p₂ : ℕ) (q₂ : p₂ ≡ p₁ + length (aRecord 2 t)) where
+  pub tables-end : (a b c p₃ : ℕ) → p₁ ≡ length (aRecord 1 (a ∷ b ∷ c ∷ [])) → p₃ ≡ p₂ + length (aRecord 2 t) → p₃ ≡ length (tableRecords m s t)
+  tables-end a b c p₃ q₁ q₃ = omega (arith, tables-length m s t, record-length 1 (a ∷ b ∷ c ∷ []), record-length 1 (m ∷ s ∷ 1 ∷ []))
 
-  pub tables-put : (o₀ o₁ o₂ o₃ : List ℕ) → o₁ ≡ overwrite o₀ 0 (aRecord 1 (m ∷ s ∷ 1 ∷ [])) → o₂ ≡ overwrite o₁ p₁ (aRecord 2 t) → o₃ ≡ overwrite o₂ p₂ (aRecord 2 t)
-      → o₃ ≡ overwrite o₀ 0 (tableRecords m s t)
+  pub tables-put : (o₀ o₁ o₂ o₃ : List ℕ) → p₁ ≡ length (aRecord 1 (m ∷ s ∷ 1 ∷ [])) → o₁ ≡ overwrite o₀ 0 (aRecord 1 (m ∷ s ∷ 1 ∷ []))
+      → o₂ ≡ overwrite o₁ p₁ (aRecord 2 t) → o₃ ≡ overwrite o₂ p₂ (aRecord 2 t) → o₃ ≡ overwrite o₀ 0 (tableRecords m s t)
   unfolding tableRecords
-  tables-put o₀ o₁ o₂ o₃ h₁ h₂ h₃ = runs-three o₀ o₁ o₂ o₃ _ _ _ p₁ p₂ h₁ (q₁ ∙ zero-add _) h₂ q₂ h₃
+  tables-put o₀ o₁ o₂ o₃ q₁ h₁ h₂ h₃ = runs-three o₀ o₁ o₂ o₃ _ _ _ p₁ p₂ h₁ q₁ h₂ q₂ h₃
 
 -- ---- the file: o₁, o₂, o₃ is the output after the tables, the lists and the end, p₁, p₂ where the next starts
 
 module _ (m s : ℕ) (t : List ℕ) (ls : List (List ℕ)) (o₀ : List ℕ) (h : length (oneStageFile m s t ls) ≤ length o₀) where
   pub tables-fit : length (tableRecords m s t) ≤ length o₀
-  tables-fit = omega (arith, file-length m s t ls, tables-length m s t)
+  tables-fit = omega (arith, file-length m s t ls)
 
   module _ (o₁ : List ℕ) (p₁ : ℕ) (l₁ : length o₁ ≡ length o₀) (q₁ : p₁ ≡ length (tableRecords m s t)) where
     pub lists-fit : p₁ + length (listRecords ls) ≤ length o₁
-    lists-fit = omega (arith, file-length m s t ls, tables-length m s t)
+    lists-fit = omega (arith, file-length m s t ls)
 
-    pub end-fits : (o₂ : List ℕ) (p₂ : ℕ) → length o₂ ≡ length o₁ → p₂ ≡ p₁ + length (listRecords ls) → p₂ + 4 ≤ length o₂
-    end-fits o₂ p₂ l₂ q₂ = omega (arith, file-length m s t ls, tables-length m s t)
+    pub end-fits : (o₂ : List ℕ) (p₂ : ℕ) → length o₂ ≡ length o₁ → p₂ ≡ p₁ + length (listRecords ls) → p₂ + length endRecord ≤ length o₂
+    end-fits o₂ p₂ l₂ q₂ = omega (arith, file-length m s t ls)
 
 pub file-put : (m s : ℕ) (t : List ℕ) (ls : List (List ℕ)) (o₀ o₁ o₂ o₃ : List ℕ) (p₁ p₂ : ℕ)
     → o₁ ≡ overwrite o₀ 0 (tableRecords m s t) → p₁ ≡ length (tableRecords m s t) → o₂ ≡ overwrite o₁ p₁ (listRecords ls) → p₂ ≡ p₁ + length (listRecords ls)
-    → o₃ ≡ overwrite o₂ p₂ (recordHead 0 4) → o₃ ≡ overwrite o₀ 0 (oneStageFile m s t ls)
+    → o₃ ≡ overwrite o₂ p₂ endRecord → o₃ ≡ overwrite o₀ 0 (oneStageFile m s t ls)
 file-put m s t ls o₀ o₁ o₂ o₃ p₁ p₂ h₁ q₁ h₂ q₂ h₃ = runs-three o₀ o₁ o₂ o₃ _ _ _ p₁ p₂ h₁ q₁ h₂ q₂ h₃ ∙ ap (overwrite o₀ 0) (sym (file-records m s t ls))
+
+-- ---- its length: a is what the head takes, b what a table takes, k what the lists take, e what the end takes
+
+pub file-size : (m s : ℕ) (t : List ℕ) (ls : List (List ℕ)) (a b k e : ℕ) → a ≡ 4 + 3 → b ≡ 4 + length t → e ≡ 4 + 0 → k ≡ length (listRecords ls)
+    → a + 2 * b + k + e ≡ length (oneStageFile m s t ls)
+file-size m s t ls a b k e ea eb ee ek =
+    omega (arith, file-length m s t ls, tables-length m s t, record-length 1 (m ∷ s ∷ 1 ∷ []), record-length 2 t, record-length 4 [])
+
+module _ (rule : List ℕ) (m s words room : ℕ) (g : Gathers rule m s words room) (t : List ℕ) (h : length t ≡ 2 ^ m) where
+  pub table-body : length t < 65536
+  table-body = table-short m s (g .limits) t h
+
+  module _ (a b : ℕ) (ea : a ≡ 4 + 3) (eb : b ≡ 4 + length t) where
+    pub tables-twice : Fits w64 (2 * b)
+    tables-twice = record { fits = omega (arith, table-body) }
+
+    pub tables-sum : Fits w64 (a + 2 * b)
+    tables-sum = record { fits = omega (arith, table-body) }
+
+    pub with-lists : (k : ℕ) → k ≤ 327760 → Fits w64 (a + 2 * b + k)
+    with-lists k l = record { fits = omega (arith, table-body) }
+
+    pub with-end : (k e : ℕ) → k ≤ 327760 → e ≡ 4 + 0 → Fits w64 (a + 2 * b + k + e)
+    with-end k e l ee = record { fits = omega (arith, table-body) }

@@ -2,8 +2,8 @@
 use mathlib.Core.Path.{_≡_, refl, sym, ap, _∙_, subst}
 use mathlib.Core.Bool.{true, false, not, _&&_}
 use mathlib.Core.List.{List, [], _∷_}
-use Prim.Native.Nat.{ℕ, suc, _*_, _/_, _%_, _^_, _≤_, _<_}
-use native.Mathlib.Nat.{mod-lt, div-add-mod', div-lt-iff-lt-mul, mul-comm}
+use Prim.Native.Nat.{ℕ, suc, _+_, _*_, _/_, _%_, _^_, _≤_, _<_}
+use native.Mathlib.Nat.{mod-lt, div-add-mod, div-lt-iff-lt-mul, mul-comm}
 use native.Mathlib.Omega.{arith}
 use lib.Dec.{leb}
 use lib.ListN.{length, getD}
@@ -62,7 +62,7 @@ stage-fits m s t h fits = record {
     at : (l : ℕ) → l < m * s → getD (directStage m s t .lists) l [] ≡ directList m s (subsetSum m (entry t)) (l / m) (l % m)
     at l k =
         let b = bounds m s 1 h in
-        ap (λ (i : ℕ). getD (directStage m s t .lists) i []) (sym (div-add-mod' l m))
+        ap (λ (i : ℕ). getD (directStage m s t .lists) i []) (sym (div-add-mod l m))
         ∙ list-at m s t (l / m) (l % m) (div-lt-iff-lt-mul (omega (arith, b .m-low)) .1 (omega (arith, mul-comm m s))) (mod-lt l (omega (arith, b .m-low)))
 
 pub sharing-formed : (m s : ℕ) (t : List ℕ) → broken m s 1 ≡ false → TableFits m t → WellFormed (directSharing m s t)

@@ -22,7 +22,7 @@ use Rattle.anf.proofs.Passing.{passing-rising, passing-congr}
 use Rattle.design.specs.Limits.{greatestTerms}
 use Rattle.design.proofs.Limits.{bounds}
 use Rattle.producer.specs.Direct.{isProduct, chosen, componentFor, stands, directList}
-use Rattle.producer.specs.Expanding.{joined, ending, emitted, inserted, insertedAll, brought, ruleTables, Follows, Expands, Gathers}
+use Rattle.producer.specs.inside.Expanding.{joined, ending, emitted, inserted, insertedAll, brought, ruleTables, Follows, Expands, Gathers}
 use Rattle.producer.proofs.Products.{product-term}
 use Rattle.producer.proofs.Placement.{chosen-lt}
 use Rattle.producer.proofs.Formed.{list-size}
@@ -139,7 +139,7 @@ module _ (rule : List ℕ) (m s u c : ℕ) (some : 0 < m) (follows : Follows s r
   module _ (v p : ℕ) (lv : v < m) (lp : p < N) (clean : Clean m s (suc v) p)
       (onward : (p′ : ℕ) → p′ < N → Clean m s v p′ → Added v p′) where
     abbrev p-with : ℕ → ℕ
-    p-with j = bitOr p (2 ^ (j * m + v))
+    p-with j = bitOr p (2 ^ (m * j + v))
 
     -- the products of the first k shares
     added-shares : has u v ≡ true → (P : ℕ → Bool) → ((q : ℕ) → q < N → extends m s u (suc v) p q ≡ true → P q ≡ false)
@@ -213,7 +213,7 @@ module _ (rule : List ℕ) (m s : ℕ) (some : 0 < m) (follows : Follows s rule)
           ≡ passing (2 ^ (m * s)) (λ q. (any n (λ u. isProduct m s u q && has (words u) b) || (isProduct m s n q && has (words n) b)) && eqb (componentFor s (chosen m s q)) c)
       at (inl t) =
           ap (λ (ts : List ℕ). insertedAll ts (passing (2 ^ (m * s)) (so-far n))) (pick-true (has (words n) b) _ [] t ∙ ap (emitted rule m s n c m 0) (sym (chosen-none m s)))
-          ∙ added rule m s n c some follows m 0 (omega arith) (pow-pos (m * s)) (λ w l j k. has-none (j * m + w)) (so-far n)
+          ∙ added rule m s n c some follows m 0 (omega arith) (pow-pos (m * s)) (λ w l j k. has-none (m * j + w)) (so-far n)
           (λ q l e. ap (λ (x : Bool). x && eqb (componentFor s (chosen m s q)) c) (not-true-false _ (λ y. fresh q (sym (extends-all m s n 0 q) ∙ e) (any-some n _ y))))
           ∙ passing-congr (2 ^ (m * s)) _ _ (λ q l. group (any n (λ u. isProduct m s u q && has (words u) b)) (eqb (componentFor s (chosen m s q)) c)
           (extends m s n m 0 q) (isProduct m s n q) (has (words n) b) (extends-all m s n 0 q) t)
@@ -283,11 +283,11 @@ module _ (rule : List ℕ) (m s : ℕ) (words : ℕ → ℕ) (size wide : ℕ) (
   pub few-terms : length (directList m s words c b) ≤ greatestTerms
   few-terms = list-size m s words c b (g .limits)
 
-  pub term-asks : (u count : ℕ) → u < 2 ^ m → count ≡ length (joined u each) → Expands rule m s m 0 size count (each u)
+  pub term-asks : (u count : ℕ) → u < 2 ^ m → count ≡ length (joined u each) → Expands rule m s u 0 size count (each u)
   term-asks u count l e = record {
     limits = g .limits;
     sets = g .follows .size;
-    within = omega arith;
+    within = l;
     chosen = pow-pos s;
     room = omega (arith, joined-within (2 ^ m) u each l, whole-length, few-terms, g .room);
   }

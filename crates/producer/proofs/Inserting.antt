@@ -8,7 +8,7 @@ use lib.ListN.{length, getD, set, take, drop, length-take}
 use lib.Seq.{take-suc-set, drop-cons, drop-set-lt, take-set-lt, getD-take, drop-length}
 use Rattle.finite.specs.Tests.{pick}
 use Rattle.anf.specs.Terms.{before}
-use Rattle.producer.specs.Expanding.{inserted}
+use Rattle.producer.specs.inside.Expanding.{inserted}
 
 -- i terms are settled, and t goes on among the others of the first n
 abbrev pub going : ℕ → List ℕ → ℕ → ℕ → List ℕ

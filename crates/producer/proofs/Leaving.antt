@@ -7,6 +7,8 @@ use Prim.Native.Nat.{ℕ, _+_, _-_, _*_, _^_, _≤_, _<_}
 use native.Mathlib.Omega.{arith}
 use lib.Pow.{pow-mono}
 use lib.ListN.{length, getD, take, drop, length-take}
+use mir.Syntax.{w64}
+use mir.Val.{Fits}
 use borrow.Author.Tests.{not-true, not-false}
 use Rattle.finite.specs.Maps.{repeats}
 use Rattle.anf.specs.Tables.{entriesBelow, entry}
@@ -14,28 +16,35 @@ use Rattle.anf.specs.inside.Words.{wordsDegree}
 use Rattle.anf.specs.Transform.{transformAfter}
 use Rattle.anf.specs.NormalForm.{degree}
 use Rattle.design.specs.Limits.{greatestTerms, broken}
-use Rattle.design.specs.Bytes.{overwrite}
-use Rattle.design.specs.Layout.{checked}
+use Rattle.design.specs.Writing.{noFile}
+use Rattle.design.specs.inside.Overwriting.{overwrite}
+use Rattle.design.specs.Layout.{checked, refusalOf}
 use Rattle.design.specs.declared.Head.{Head}
 use Rattle.design.specs.declared.Checked.{Checked}
 use Rattle.design.specs.declared.Checked.the-variants.{Good, Beyond}
 use Rattle.design.proofs.Limits.{bounds}
 use Rattle.producer.specs.Direct.{directLists}
 use Rattle.producer.specs.Producing.{produced}
-use Rattle.producer.specs.Expanding.{Gathers, Permutes, Ready, ruleTables, listRecords, oneStageFile, refused}
-use Rattle.producer.specs.declared.Produced.{Produced}
-use Rattle.producer.proofs.Writing.{file-length}
-use Rattle.producer.proofs.Answering.{Answered, refusal-answer, success-answer, head-good, head-beyond, reason-beyond, reason-size, reason-entry, reason-repeat, permutes, reason-degree, found-degree, found-ready, file-is, file-size, ready-gathers, short, enough, rules-length, sets-least, sets-most, rule-part}
-use mir.Syntax.{w64}
-use mir.Val.{Fits}
+use Rattle.producer.specs.inside.Expanding.{Gathers, TableTested, DegreeTested, ruleTables, oneStageFile}
+use Rattle.design.specs.declared.Produced.{Produced}
+use Rattle.producer.proofs.Answering.{Answered, refuses, succeeds, reason-head, head-within, reason-size, reason-entry, reason-repeat, table-tested, reason-degree}
+use Rattle.producer.proofs.Answering.{found-degree, found-ready, file-is, ready-gathers, short, enough, rules-length, sets-least, sets-most, rule-part}
 
--- ---- `produce`
+-- ---- `head_reason` and `produce`: h is the head's answer, k its number
 
-pub beyond : (m s : ℕ) (t out : List ℕ) (h : Checked) (r : Produced) → h ≡ checked m s 1 → h ≡ Beyond → r ≡ refused 4 → Answered m s t out r out
-beyond m s t out h r eh e er = refusal-answer m s t out r 4 er (omega arith) (reason-beyond m s t (length out) (head-beyond m s (sym e ∙ eh)))
+module _ (m s : ℕ) (h : Checked) (eh : h ≡ checked m s 1) where
+  pub good-number : (g : Head) → h ≡ Good g → 0 ≡ refusalOf (checked m s 1)
+  good-number g e = sym (ap refusalOf (sym eh ∙ e))
 
-pub within : (m s : ℕ) (h : Checked) (g : Head) → h ≡ checked m s 1 → h ≡ Good g → broken m s 1 ≡ false
-within m s h g eh e = head-good m s g (sym e ∙ eh)
+  pub beyond-number : h ≡ Beyond → 4 ≡ refusalOf (checked m s 1)
+  beyond-number e = sym (ap refusalOf (sym eh ∙ e))
+
+module _ (m s k : ℕ) (ek : k ≡ refusalOf (checked m s 1)) where
+  pub beyond : (k ≡ 0 → ⊥) → (t out : List ℕ) (r : Produced) → r ≡ noFile k → Answered m s t out r out
+  beyond n t out r er = refuses m s t out r k er (omega arith) (reason-head m s t (length out) (λ e. n (ek ∙ e)) ∙ sym ek)
+
+  pub within : k ≡ 0 → broken m s 1 ≡ false
+  within z = head-within m s (sym ek ∙ z)
 
 -- ---- `produce_within`
 
@@ -43,13 +52,13 @@ pub shifts : (m s : ℕ) → broken m s 1 ≡ false → m < 64
 shifts m s limits = omega (arith, bounds m s 1 limits .m-high)
 
 module _ (m s : ℕ) (t : List ℕ) (limits : broken m s 1 ≡ false) (n : ℕ) (en : n ≡ 2 ^ m) where
-  pub missized : (length t ≡ n → ⊥) → (out : List ℕ) (r : Produced) → r ≡ refused 3 → Answered m s t out r out
-  missized z out r er = refusal-answer m s t out r 3 er (omega arith) (reason-size m s t (length out) limits (λ e. z (e ∙ sym en)))
+  pub missized : (length t ≡ n → ⊥) → (out : List ℕ) (r : Produced) → r ≡ noFile 3 → Answered m s t out r out
+  missized z out r er = refuses m s t out r 3 er (omega arith) (reason-size m s t (length out) limits (λ e. z (e ∙ sym en)))
 
   module _ (z : length t ≡ n) (b : Bool) (eb : b ≡ entriesBelow t n) where
-    pub entry-beyond : not b ≡ true → (out : List ℕ) (r : Produced) → r ≡ refused 5 → Answered m s t out r out
+    pub entry-beyond : not b ≡ true → (out : List ℕ) (r : Produced) → r ≡ noFile 5 → Answered m s t out r out
     entry-beyond h out r er =
-        refusal-answer m s t out r 5 er (omega arith) (reason-entry m s t (length out) limits (z ∙ en) (ap (entriesBelow t) (sym en) ∙ sym eb ∙ not-true b h))
+        refuses m s t out r 5 er (omega arith) (reason-entry m s t (length out) limits (z ∙ en) (ap (entriesBelow t) (sym en) ∙ sym eb ∙ not-true b h))
 
     module _ (h : not b ≡ false) (q : Bool) (eq : q ≡ repeats (length t) (entry t)) where
       below : entriesBelow t (2 ^ m) ≡ true
@@ -58,15 +67,15 @@ module _ (m s : ℕ) (t : List ℕ) (limits : broken m s 1 ≡ false) (n : ℕ) 
       repeated : (v : Bool) → q ≡ v → repeats (2 ^ m) (entry t) ≡ v
       repeated v e = ap (λ (k : ℕ). repeats k (entry t)) (sym (z ∙ en)) ∙ sym eq ∙ e
 
-      pub entry-repeats : q ≡ true → (out : List ℕ) (r : Produced) → r ≡ refused 8 → Answered m s t out r out
-      entry-repeats e out r er = refusal-answer m s t out r 8 er (omega arith) (reason-repeat m s t (length out) limits (z ∙ en) below (repeated true e))
+      pub entry-repeats : q ≡ true → (out : List ℕ) (r : Produced) → r ≡ noFile 8 → Answered m s t out r out
+      entry-repeats e out r er = refuses m s t out r 8 er (omega arith) (reason-repeat m s t (length out) limits (z ∙ en) below (repeated true e))
 
-      pub is-permutation : q ≡ false → (room : ℕ) → Permutes m s t room
-      is-permutation e room = permutes m s t room limits (z ∙ en) below (repeated false e)
+      pub is-permutation : q ≡ false → (room : ℕ) → TableTested m s t room
+      is-permutation e room = table-tested m s t room limits (z ∙ en) below (repeated false e)
 
--- ---- `share_permutation`
+-- ---- `produce_permutation`
 
-module _ (m s : ℕ) (t : List ℕ) (room : ℕ) (p : Permutes m s t room) where
+module _ (m s : ℕ) (t : List ℕ) (room : ℕ) (p : TableTested m s t room) where
   points-most : length t ≤ 64
   points-most = omega (arith, p .size, pow-mono (bounds m s 1 (p .limits) .m-high))
 
@@ -80,17 +89,17 @@ module _ (m s : ℕ) (t : List ℕ) (room : ℕ) (p : Permutes m s t room) where
     degree-is : d ≡ degree m (entry t)
     degree-is = ed ∙ found-degree m s t room p zeros words ew size
 
-    pub passes-all : d < s → length words ≡ length zeros → Ready m s t words room
+    pub passes-all : d < s → length words ≡ length zeros → DegreeTested m s t words room
     passes-all g l = found-ready m s t room p zeros words ew size (omega (arith, degree-is)) l
 
-module _ (m s : ℕ) (t out : List ℕ) (p : Permutes m s t (length out)) (zeros words : List ℕ) (ew : words ≡ transformAfter m t zeros) (size : length zeros ≡ 64) where
-  pub degree-high : (d : ℕ) → d ≡ wordsDegree (take (length t - 0) words) → s ≤ d → (r : Produced) → r ≡ refused 16 → Answered m s t out r out
+module _ (m s : ℕ) (t out : List ℕ) (p : TableTested m s t (length out)) (zeros words : List ℕ) (ew : words ≡ transformAfter m t zeros) (size : length zeros ≡ 64) where
+  pub degree-high : (d : ℕ) → d ≡ wordsDegree (take (length t - 0) words) → s ≤ d → (r : Produced) → r ≡ noFile 16 → Answered m s t out r out
   degree-high d ed g r er =
-      refusal-answer m s t out r 16 er (omega arith) (reason-degree m s t (length out) p (omega (arith, degree-is m s t (length out) p zeros words ew size d ed)))
+      refuses m s t out r 16 er (omega arith) (reason-degree m s t (length out) p (omega (arith, degree-is m s t (length out) p zeros words ew size d ed)))
 
--- ---- `share`
+-- ---- `write_sharing`
 
-module _ (m s : ℕ) (t words : List ℕ) (room : ℕ) (r : Ready m s t words room) where
+module _ (m s : ℕ) (t words : List ℕ) (room : ℕ) (r : DegreeTested m s t words room) where
   pub shifts-shares : s < 64
   shifts-shares = omega (arith, bounds m s 1 (r .limits) .s-high)
 
@@ -112,24 +121,19 @@ module _ (m s : ℕ) (t words : List ℕ) (room : ℕ) (r : Ready m s t words ro
       part-gathers size g =
           ready-gathers m s t words room r _ size (rule-part s n tables (bounds m s 1 (r .limits) .s-low) (bounds m s 1 (r .limits) .s-high) en et) (omega arith)
 
--- ---- `share_by`: k is how many bytes the lists take
+-- ---- `write_by_rule`: k is the length that is found
 
-pub file-fits : (m s : ℕ) (t : List ℕ) (ls : List (List ℕ)) (k room : ℕ) → 19 + 2 * length t + k ≤ room → k ≡ length (listRecords ls) → length (oneStageFile m s t ls) ≤ room
-file-fits m s t ls k room h ek = omega (arith, file-length m s t ls)
+pub file-fits : (k room : ℕ) (file : List ℕ) → k ≤ room → k ≡ length file → length file ≤ room
+file-fits k room file h ek = omega arith
 
-module _ (m s : ℕ) (t words : List ℕ) (room : ℕ) (r : Ready m s t words room) where
-  pub tables-fit : Fits w64 (19 + 2 * length t)
-  tables-fit = record { fits = omega (arith, r .size, pow-mono (bounds m s 1 (r .limits) .m-high)) }
+module _ (m s : ℕ) (t words out : List ℕ) (r : DegreeTested m s t words (length out)) (k : ℕ) (ek : k ≡ length (oneStageFile m s t (directLists m s (λ u. getD words u 0)))) where
+  size-is : k ≡ length (produced m s t)
+  size-is = ek ∙ ap length (file-is m s t words (length out) r)
 
-  pub size-fits : (k : ℕ) → k ≤ 327760 → Fits w64 (19 + 2 * length t + k)
-  size-fits k h = record { fits = omega (arith, r .size, pow-mono (bounds m s 1 (r .limits) .m-high)) }
+  pub too-short : length out < k → (a : Produced) → a ≡ noFile 17 → Answered m s t out a out
+  too-short h a ea = refuses m s t out a 17 ea (omega arith) (short m s t words (length out) r (omega (arith, size-is)))
 
-module _ (m s : ℕ) (t words out : List ℕ) (r : Ready m s t words (length out)) (k : ℕ) (ek : k ≡ length (listRecords (directLists m s (λ u. getD words u 0)))) where
-  pub too-short : length out < 19 + 2 * length t + k → (a : Produced) → a ≡ refused 17 → Answered m s t out a out
-  too-short h a ea = refusal-answer m s t out a 17 ea (omega arith) (short m s t words (length out) r (omega (arith, file-size m s t words (length out) r k ek)))
-
-  pub writes : 19 + 2 * length t + k ≤ length out → (after : List ℕ) → after ≡ overwrite out 0 (oneStageFile m s t (directLists m s (λ u. getD words u 0)))
-      → Answered m s t out (record { reason = 0; length = 19 + 2 * length t + k }) after
+  pub writes : k ≤ length out → (after : List ℕ) → after ≡ overwrite out 0 (oneStageFile m s t (directLists m s (λ u. getD words u 0)))
+      → Answered m s t out (record { reason = 0; length = k }) after
   writes h after ew =
-      let z : 19 + 2 * length t + k ≡ length (produced m s t) = file-size m s t words (length out) r k ek in
-      success-answer m s t out _ after z (enough m s t words (length out) r (omega (arith, z))) (ew ∙ ap (overwrite out 0) (file-is m s t words (length out) r))
+      succeeds m s t out k after size-is (enough m s t words (length out) r (omega (arith, size-is))) (ew ∙ ap (overwrite out 0) (file-is m s t words (length out) r))

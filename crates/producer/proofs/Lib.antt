@@ -7,6 +7,7 @@ pub mod Stage
 pub mod Formed
 pub mod Shareable
 pub mod Theorems
+pub mod Room
 pub mod Inserting
 pub mod Emitting
 pub mod Choosing

@@ -12,7 +12,7 @@ use borrow.Author.Tests.{eqb-true, eqb-false, eq-eqb, ne-eqb, not-true, not-fals
 use Rattle.finite.specs.Tests.{pick, bit, any, first, count}
 use Rattle.finite.specs.Sets.{has}
 use Rattle.finite.proofs.Testing.{true-or-false, clash, and-left, any-some, any-none, first-is, first-none, pick-true, pick-false}
-use Rattle.finite.proofs.Counting.{total-congr, total-mono, count-has, total-swap, ones-each}
+use Rattle.finite.proofs.Counting.{total-congr, total-mono, count-has, total-swap, total-const}
 use Rattle.finite.proofs.Elements.{has-none, some-element, ones-count, made-lt, made-has}
 use Rattle.threshold.specs.Sharing.{share}
 use Rattle.threshold.proofs.Sharing.{share-lt, share-has}
@@ -103,16 +103,16 @@ left-out m s u p l e h = at (true-or-false (any s (λ j. eqb (share m j p) 0)))
         absurd (omega (
           arith,
           ones-count m u l,
-          total-congr m (λ v. bit (has u v)) (λ v. count s (λ j. has p (j * m + v))) (λ v k. sym (product-at m s u p e v k)),
-          total-swap m s (λ v j. bit (has p (j * m + v))),
-          total-mono s (λ j. 1) (λ j. count m (λ v. has p (j * m + v))) (λ j k. some j k),
-          ones-each s,
+          total-congr m (λ v. bit (has u v)) (λ v. count s (λ j. has p (m * j + v))) (λ v k. sym (product-at m s u p e v k)),
+          total-swap m s (λ v j. bit (has p (m * j + v))),
+          total-mono s (λ j. 1) (λ j. count m (λ v. has p (m * j + v))) (λ j k. some j k),
+          total-const s 1,
         ))
       where
-        some : (j : ℕ) → j < s → 1 ≤ count m (λ v. has p (j * m + v))
+        some : (j : ℕ) → j < s → 1 ≤ count m (λ v. has p (m * j + v))
         some j k =
             let v = any-some m (has (share m j p)) (some-element m (share m j p) (share-lt m j p) (eqb-false _ _ (any-none s _ f j k))) in
-            count-has m (λ v. has p (j * m + v)) (v .0) (v .1) (sym (share-has m j p (v .0) (v .1)) ∙ v .2)
+            count-has m (λ v. has p (m * j + v)) (v .0) (v .1) (sym (share-has m j p (v .0) (v .1)) ∙ v .2)
 
 pub product-component : (m s u p : ℕ) → u < 2 ^ m → isProduct m s u p ≡ true → ones u < s → componentFor s (chosen m s p) < s
 product-component m s u p l e h =

@@ -14,15 +14,16 @@ use Rattle.finite.specs.Sets.{subset, has}
 use Rattle.finite.proofs.Testing.{bool-ext, all-at, all-intro, all-congr, all-and}
 use Rattle.finite.proofs.Counting.{count-congr, bit-inj}
 use Rattle.finite.proofs.Elements.{has-none, sets-eq, unlike, has-xor, subset-all, has-low}
+use Rattle.threshold.proofs.Dependence.{own-place}
 use Rattle.threshold.specs.Sharing.{share}
-use Rattle.threshold.proofs.Sharing.{share-lt, share-has, place-lt}
+use Rattle.threshold.proofs.Sharing.{share-lt, share-has}
 use Rattle.producer.specs.Direct.{isProduct}
 
-pub product-at : (m s u p : ℕ) → isProduct m s u p ≡ true → (v : ℕ) → v < m → count s (λ j. has p (j * m + v)) ≡ bit (has u v)
+pub product-at : (m s u p : ℕ) → isProduct m s u p ≡ true → (v : ℕ) → v < m → count s (λ j. has p (m * j + v)) ≡ bit (has u v)
 unfolding isProduct
 product-at m s u p e v l = eqb-true _ _ (all-at m _ e v l)
 
-pub at-product : (m s u p : ℕ) → ((v : ℕ) → v < m → count s (λ j. has p (j * m + v)) ≡ bit (has u v)) → isProduct m s u p ≡ true
+pub at-product : (m s u p : ℕ) → ((v : ℕ) → v < m → count s (λ j. has p (m * j + v)) ≡ bit (has u v)) → isProduct m s u p ≡ true
 unfolding isProduct
 at-product m s u p h = all-intro m _ (λ v l. eq-eqb _ _ (h v l))
 
@@ -46,10 +47,10 @@ one-more false u c = ap (λ (x : ℕ). eqb x (bit u)) (zero-add c) ∙ same u
 pub product-more : (m s u p : ℕ) → isProduct m (suc s) u p ≡ (subset (share m s p) u && isProduct m s (bitXor u (share m s p)) p)
 unfolding isProduct total
 product-more m s u p =
-    all-congr m _ (λ v. implies (has (share m s p) v) (has u v) && eqb (count s (λ j. has p (j * m + v))) (bit (has (bitXor u (share m s p)) v)))
-    (λ v l. ap (λ (b : Bool). eqb (bit b + count s (λ j. has p (j * m + v))) (bit (has u v))) (sym (share-has m s p v l))
-    ∙ one-more (has (share m s p) v) (has u v) (count s (λ j. has p (j * m + v)))
-    ∙ ap (λ (b : Bool). implies (has (share m s p) v) (has u v) && eqb (count s (λ j. has p (j * m + v))) (bit b)) (sym (has-xor u (share m s p) v)))
+    all-congr m _ (λ v. implies (has (share m s p) v) (has u v) && eqb (count s (λ j. has p (m * j + v))) (bit (has (bitXor u (share m s p)) v)))
+    (λ v l. ap (λ (b : Bool). eqb (bit b + count s (λ j. has p (m * j + v))) (bit (has u v))) (sym (share-has m s p v l))
+    ∙ one-more (has (share m s p) v) (has u v) (count s (λ j. has p (m * j + v)))
+    ∙ ap (λ (b : Bool). implies (has (share m s p) v) (has u v) && eqb (count s (λ j. has p (m * j + v))) (bit b)) (sym (has-xor u (share m s p) v)))
     ∙ all-and m _ _
     ∙ ap (λ (b : Bool). b && isProduct m s (bitXor u (share m s p)) p) (sym (subset-all m (share m s p) u (share-lt m s p)))
 
@@ -58,7 +59,7 @@ pub product-low : (m s u a r : ℕ) → r < 2 ^ (m * s) → isProduct m s u (a *
 unfolding isProduct
 product-low m s u a r l =
     all-congr m _ _ (λ v k. ap (λ (c : ℕ). eqb c (bit (has u v)))
-    (count-congr s (λ j. has (a * 2 ^ (m * s) + r) (j * m + v)) (λ j. has r (j * m + v)) (λ j h. has-low (m * s) a r (j * m + v) l (place-lt m s j v h k))))
+    (count-congr s (λ j. has (a * 2 ^ (m * s) + r) (m * j + v)) (λ j. has r (m * j + v)) (λ j h. has-low (m * s) a r (m * j + v) l (own-place m s j v h k))))
 
 -- with no share at all only the empty term has a product
 pub product-none : (m u p : ℕ) → u < 2 ^ m → isProduct m 0 u p ≡ eqb u 0

@@ -7,7 +7,6 @@ use mathlib.Core.List.{List, []}
 use Prim.Native.Nat.{ℕ, _+_, _*_, _/_, _%_, _^_, _<_}
 use native.Mathlib.Nat.{mul-comm}
 use native.Mathlib.Omega.{arith}
-use lib.Arith.{digits-div, digits-mod}
 use lib.Dec.{eqb}
 use lib.Bits.{bitAnd}
 use lib.Count.{ones}
@@ -29,9 +28,9 @@ use Rattle.design.specs.Design.{TableFits}
 use Rattle.threshold.specs.Sharing.{share, sum, withShare}
 use Rattle.threshold.specs.inside.Variables.{variables}
 use Rattle.threshold.specs.Stages.{output, component, Correct, NonComplete}
-use Rattle.threshold.proofs.Sharing.{share-lt, sum-lt, with-own, setting-with, share-bit, place-lt}
+use Rattle.threshold.proofs.Sharing.{share-lt, sum-lt, with-own, setting-with, share-bit, place-div, place-mod}
 use Rattle.threshold.proofs.Output.{output-bit, component-eq}
-use Rattle.threshold.proofs.Dependence.{clear-variables, setting-clear}
+use Rattle.threshold.proofs.Dependence.{clear-variables, setting-clear, own-place}
 use Rattle.producer.specs.Direct.{isProduct, chosen, componentFor, stands, directList, directLists, directStage}
 use Rattle.producer.proofs.Products.{product-term}
 use Rattle.producer.proofs.Expansion.{expansion}
@@ -44,11 +43,11 @@ unfolding directStage directLists
 lists-length m s t = tabulate-length (m * s) (λ i. directList m s (subsetSum m (entry t)) (i / m) (i % m))
 
 -- list b of component c
-pub list-at : (m s : ℕ) (t : List ℕ) (c b : ℕ) → c < s → b < m → getD (directStage m s t .lists) (c * m + b) [] ≡ directList m s (subsetSum m (entry t)) c b
+pub list-at : (m s : ℕ) (t : List ℕ) (c b : ℕ) → c < s → b < m → getD (directStage m s t .lists) (m * c + b) [] ≡ directList m s (subsetSum m (entry t)) c b
 unfolding directStage directLists
 list-at m s t c b lc lb =
-    tabulate-at (m * s) (λ i. directList m s (subsetSum m (entry t)) (i / m) (i % m)) (c * m + b) [] (place-lt m s c b lc lb)
-    ∙ ap₂ (directList m s (subsetSum m (entry t))) (digits-div c lb) (digits-mod c lb)
+    tabulate-at (m * s) (λ i. directList m s (subsetSum m (entry t)) (i / m) (i % m)) (m * c + b) [] (own-place m s c b lc lb)
+    ∙ ap₂ (directList m s (subsetSum m (entry t))) (place-div m c b lb) (place-mod m c b lb)
 
 pub list-value : (m s : ℕ) (f : ℕ → ℕ) (c b σ : ℕ)
     → valueAt (directList m s f c b) σ ≡ xorBelow (2 ^ (m * s)) (λ p. pick (subset p σ) (bit (stands m s f c b p)) 0)
@@ -59,7 +58,7 @@ list-value m s f c b σ = valueAt-passing (2 ^ (m * s)) (stands m s f c b) σ
 
 module _ (m s : ℕ) (f : ℕ → ℕ) (low : degree m f < s) (b : ℕ) where
   -- a term of bit b has fewer than s variables
-  term-small : (u : ℕ) → u < 2 ^ m → has (subsetSum m f u) b ≡ true → ones u < s
+  pub term-small : (u : ℕ) → u < 2 ^ m → has (subsetSum m f u) b ≡ true → ones u < s
   term-small u l h =
       omega (arith, degree-at m f u l (λ z. clash h (ap (λ (x : ℕ). has x b) z ∙ has-none b)))
 
@@ -131,7 +130,7 @@ pub component-value : (m s : ℕ) (t : List ℕ) (c b σ : ℕ) → c < s → b 
     → component m (directStage m s t .lists) c σ / 2 ^ b % 2 ≡ valueAt (directList m s (subsetSum m (entry t)) c b) σ
 component-value m s t c b σ lc lb =
     share-bit m c (output (directStage m s t .lists) σ) b lb
-    ∙ output-bit σ (c * m + b) (directStage m s t .lists)
+    ∙ output-bit σ (m * c + b) (directStage m s t .lists)
     ∙ ap (λ (l : List ℕ). valueAt l σ) (list-at m s t c b lc lb)
 
 pub direct-correct : (m s : ℕ) (t : List ℕ) → TableFits m t → degree m (entry t) < s → Correct m s (component m (directStage m s t .lists)) t
@@ -168,7 +167,7 @@ direct-non-complete m s t c l σ lσ v lv =
     (λ b lb. ap (λ (x : List ℕ). valueAt x (withShare m c v σ)) (at b lb) ∙ same b ∙ ap (λ (x : List ℕ). valueAt x σ) (sym (at b lb)))
   where
     at : (b : ℕ) → b < m → getD (directStage m s t .lists) (m * c + b) [] ≡ directList m s (subsetSum m (entry t)) c b
-    at b lb = ap (λ (x : ℕ). getD (directStage m s t .lists) (x + b) []) (mul-comm m c) ∙ list-at m s t c b l lb
+    at b lb = list-at m s t c b l lb
 
     term : (b p : ℕ) (x : Bool) → stands m s (subsetSum m (entry t)) c b p ≡ x → pick (subset p (withShare m c v σ)) (bit x) 0 ≡ pick (subset p σ) (bit x) 0
     term b p true e = ap (λ (y : Bool). pick y 1 0) (blind m c p σ v lv (stands-outside m s (subsetSum m (entry t)) c b p l e))

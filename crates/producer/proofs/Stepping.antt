@@ -4,8 +4,10 @@ use mathlib.Core.Bool.{Bool, true, false, not}
 use mathlib.Core.List.{List, [], _∷_}
 use Prim.Native.Nat.{ℕ, _+_, _-_, _*_, _^_, _≤_, _<_}
 use native.Mathlib.Nat.{zero-add}
+use native.Mathlib.Numerals.{add-one}
 use native.Mathlib.Omega.{arith}
 use lib.Pow.{pow-mono}
+use lib.Count.{ones, leadingZeros, leading-top}
 use lib.Bits.{bitOr}
 use lib.ListN.{length, getD, set, take}
 use lib.Seq.{set-getD}
@@ -19,9 +21,9 @@ use Rattle.anf.specs.Terms.{before}
 use Rattle.design.specs.Limits.{greatestTerms}
 use Rattle.design.proofs.Limits.{bounds}
 use Rattle.producer.specs.Direct.{directList}
-use Rattle.producer.specs.Expanding.{joined, ending, emitted, inserted, insertedAll, Grown, brought, Expands, Gathers}
+use Rattle.producer.specs.inside.Expanding.{joined, ending, emitted, inserted, insertedAll, Grown, brought, Highest, Expands, Gathers}
 use Rattle.producer.proofs.Inserting.{going, going-on, going-end}
-use Rattle.producer.proofs.Emitting.{through, inserted-one, inserted-none, ending-here, ending-other, emitted-end, emitted-skip, emitted-each, expands-skip, expands-share, bit-place, turn-count, turn-list}
+use Rattle.producer.proofs.Emitting.{onward, variable-lt, fewer, inserted-one, inserted-none, ending-here, ending-other, emitted-end, emitted-each-set, expands-share, bit-place, turn-count, turn-list}
 use Rattle.producer.proofs.Gathering.{term-asks, all-terms, few-terms}
 
 -- ---- `settle`: x is the term at i, b whether t stands before it
@@ -95,8 +97,8 @@ module _ (word b : ℕ) (ts : List ℕ) (h : Bool) (e : h ≡ has word b) where
     is-brought : pick (has word b) ts [] ≡ ts
     is-brought = pick-true (has word b) ts [] (sym e ∙ not-false h z)
 
-    pub brings-asks : (rule : List ℕ) (m s left J size n : ℕ) → Expands rule m s left J size n (pick (has word b) ts []) → Expands rule m s left J size n ts
-    brings-asks rule m s left J size n x = subst (Expands rule m s left J size n) is-brought x
+    pub brings-asks : (rule : List ℕ) (m s u J size n : ℕ) → Expands rule m s u J size n (pick (has word b) ts []) → Expands rule m s u J size n ts
+    brings-asks rule m s u J size n x = subst (Expands rule m s u J size n) is-brought x
 
     pub brings : (l : List ℕ) (n : ℕ) (l′ : List ℕ) (r : ℕ) → Grown ts l n l′ r → Grown (pick (has word b) ts []) l n l′ r
     brings l n l′ r g = grown-as ts _ l n l′ r (sym is-brought) g
@@ -133,10 +135,10 @@ module _ (rule : List ℕ) (m s : ℕ) (w : List ℕ) (size : ℕ) (g : Gathers 
       term-next = record { fits = omega (arith, term-low) }
 
       pub term-asked : (c b count size′ : ℕ) (l₀ l : List ℕ) → Grown (joined u (bringing rule m s c b w)) l₀ 0 l count → size′ ≡ size
-          → Expands rule m s m 0 size′ count (brought rule m s c b (getD w u 0) u)
+          → Expands rule m s u 0 size′ count (brought rule m s c b (getD w u 0) u)
       unfolding bringing
       term-asked c b count size′ l₀ l e q =
-          subst (λ (k : ℕ). Expands rule m s m 0 k count (brought rule m s c b (getD w u 0) u)) (sym q)
+          subst (λ (k : ℕ). Expands rule m s u 0 k count (brought rule m s c b (getD w u 0) u)) (sym q)
           (term-asks rule m s (λ v. getD w v 0) size (length w) g c b u count (omega arith) (e .count ∙ zero-add _))
 
     -- words is what w holds
@@ -154,72 +156,75 @@ module _ (rule : List ℕ) (m s : ℕ) (w : List ℕ) (size : ℕ) (g : Gathers 
       pub all-list : (words : ℕ → ℕ) → words ≡ (λ v. getD w v 0) → take count l ≡ directList m s words c b
       all-list words q = all-terms-here .1 ∙ sym (ap (λ (f : ℕ → ℕ). directList m s f c b) q)
 
--- ---- `expand`: the products on top of p, for which the shares J are chosen, where `left` variables of u are left
+-- ---- `highest` and `without`: x is a set
 
-module _ (rule : List ℕ) (m s left J size n : ℕ) (ts : List ℕ) (x : Expands rule m s left J size n ts) where
+pub zeros-few : (x : ℕ) → 0 < x → x < 2 ^ 32 → leadingZeros 32 x ≤ 31
+zeros-few x p h = let t = leading-top 32 x p h in omega (arith, t .1)
+
+pub highest-is : (x : ℕ) → 0 < x → x < 2 ^ 32 → Highest x (31 - leadingZeros 32 x)
+highest-is x p h =
+    let t = leading-top 32 x p h in
+    let e : 31 - leadingZeros 32 x ≡ t .0 = omega (arith, t .1) in
+    record { least = rw e (t .2); most = rw (e, add-one) (t .3) }
+
+-- ---- `expand`: the products of the variables of u on top of p, for which the shares J are chosen
+
+module _ (rule : List ℕ) (m s u J size n : ℕ) (ts : List ℕ) (x : Expands rule m s u J size n ts) where
   pub chosen-low : J < length rule
   chosen-low = omega (arith, x .chosen, x .sets)
 
-  pub variable-low : left - 1 < 32
-  variable-low = omega (arith, bounds m s 1 (x .limits) .m-high, x .within)
+  pub shares-low : (j : ℕ) → j < s → j < 32
+  shares-low j k = omega (arith, bounds m s 1 (x .limits) .s-high)
 
-  module _ (j : ℕ) (k : j < s) where
-    pub share-low : j < 32
-    share-low = omega (arith, bounds m s 1 (x .limits) .s-high)
+  pub share-next : (j : ℕ) → j < s → Fits w64 (j + 1)
+  share-next j k = record { fits = omega (arith, shares-low j k) }
 
-    pub share-next : Fits w64 (j + 1)
-    share-next = record { fits = omega (arith, share-low) }
+  module _ (v : ℕ) (t : Highest u v) where
+    pub variable-low : v < 32
+    variable-low = omega (arith, bounds m s 1 (x .limits) .m-high, variable-lt rule m s 0 u v t (x .within))
 
-    module _ (z : left ≡ 0 → ⊥) where
-      pub place-low : j * m + (left - 1) < 32
-      place-low = omega (arith, bit-place rule m s 0 0 left J size n j ts x z k)
+    module _ (j : ℕ) (k : j < s) where
+      pub place-low : m * j + v < 32
+      place-low = omega (arith, bit-place rule m s 0 u v t (x .within) J size n j ts x k)
 
-      pub place-fits : Fits w64 (j * m + (left - 1))
+      pub place-fits : Fits w64 (m * j + v)
       place-fits = record { fits = omega (arith, place-low) }
 
-      pub row-fits : Fits w64 (j * m)
+      pub row-fits : Fits w64 (m * j)
       row-fits = record { fits = omega (arith, place-low) }
 
--- what share j of variable v gives
+    pub fewer-left : (r k : ℕ) → r ≡ u - 2 ^ v → ones u ≡ k → ones r < k
+    fewer-left r k e z = rw (e, ← z) (fewer rule m s 0 u v t (x .within))
+
+-- what share j of variable v gives, where the set r is left
 unfoldable pub sharing : List ℕ → ℕ → ℕ → ℕ → ℕ → ℕ → ℕ → ℕ → ℕ → List ℕ
-sharing rule m s u c v p J = through rule m s u c v p J
+sharing rule m s r c v p J = onward rule m s c r v p J
 
-module _ (rule : List ℕ) (m s u c left p J : ℕ) where
-  module _ (z : left ≡ 0) where
-    pub room-end : (size n : ℕ) → Expands rule m s left J size n (emitted rule m s u c left p J) → n + length (ending rule c p J) ≤ size
-    room-end size n x = omega (arith, x .room, ap length (emitted-end rule m s u c left p J z))
+module _ (rule : List ℕ) (m s u c p J size n : ℕ) (x : Expands rule m s u J size n (emitted rule m s u c m p J)) where
+  module _ (z : u ≡ 0) where
+    pub room-end : n + length (ending rule c p J) ≤ size
+    room-end = omega (arith, x .room, ap length (emitted-end rule m s u c p J z))
 
-    pub ends : (l : List ℕ) (n : ℕ) (l′ : List ℕ) (r : ℕ) → Grown (ending rule c p J) l n l′ r → Grown (emitted rule m s u c left p J) l n l′ r
-    ends l n l′ r g = grown-as _ _ l n l′ r (sym (emitted-end rule m s u c left p J z)) g
+    pub ends : (l l′ : List ℕ) (k : ℕ) → Grown (ending rule c p J) l n l′ k → Grown (emitted rule m s u c m p J) l n l′ k
+    ends l l′ k g = grown-as _ _ l n l′ k (sym (emitted-end rule m s u c p J z)) g
 
-  -- h is whether u has the next variable
-  module _ (z : left ≡ 0 → ⊥) (h : Bool) (e : h ≡ has u (left - 1)) where
-    module _ (k : not h ≡ true) where
-      pub skip-asks : (size n : ℕ) → Expands rule m s left J size n (emitted rule m s u c left p J) → Expands rule m s (left - 1) J size n (emitted rule m s u c (left - 1) p J)
-      skip-asks size n x = expands-skip rule m s u c left p J size n z (sym e ∙ not-true h k) x
+  -- r is what is left of u without its highest variable v
+  module _ (v : ℕ) (t : Highest u v) (r : ℕ) (re : r ≡ u - 2 ^ v) where
+    -- q and K are p and J with share j too
+    pub share-asks : (l₀ l : List ℕ) (j count q K size′ : ℕ) → j < s → Grown (joined j (sharing rule m s r c v p J)) l₀ n l count
+        → q ≡ bitOr p (2 ^ (m * j + v)) → K ≡ bitOr J (2 ^ j) → size′ ≡ size → Expands rule m s r K size′ count (emitted rule m s r c m q K)
+    unfolding sharing
+    share-asks l₀ l j count q K size′ i g qe Ke se =
+        rw (se, re) (expands-share rule m s c u v t (x .within) p J size n x j count q K i (rw re at (g .count)) qe Ke)
 
-      pub skips : (l : List ℕ) (n : ℕ) (l′ : List ℕ) (r : ℕ) → Grown (emitted rule m s u c (left - 1) p J) l n l′ r → Grown (emitted rule m s u c left p J) l n l′ r
-      skips l n l′ r g = grown-as _ _ l n l′ r (sym (emitted-skip rule m s u c left p J z (sym e ∙ not-true h k))) g
+    pub shares-all : (j : ℕ) → j ≤ s → s ≤ j → (l l′ : List ℕ) (k : ℕ) → Grown (joined j (sharing rule m s r c v p J)) l n l′ k → Grown (emitted rule m s u c m p J) l n l′ k
+    unfolding sharing
+    shares-all j a b l l′ k g =
+        let q : j ≡ s = omega arith in
+        grown-as _ _ l n l′ k (ap₂ (λ (i y : ℕ). joined i (onward rule m s c y v p J)) q re ∙ sym (emitted-each-set rule m s c u v t (x .within) p J)) g
 
-    module _ (k : not h ≡ false) where
-      -- q and K are p and J with share j too
-      pub share-asks : (size n : ℕ) → Expands rule m s left J size n (emitted rule m s u c left p J) → (l₀ l : List ℕ) (j count q K size′ : ℕ) → j < s
-          → Grown (joined j (sharing rule m s u c (left - 1) p J)) l₀ n l count → q ≡ bitOr p (2 ^ (j * m + (left - 1))) → K ≡ bitOr J (2 ^ j) → size′ ≡ size
-          → Expands rule m s (left - 1) K size′ count (emitted rule m s u c (left - 1) q K)
-      unfolding sharing
-      share-asks size n x l₀ l j count q K size′ i g qe Ke se =
-          subst (λ (y : ℕ). Expands rule m s (left - 1) K y count (emitted rule m s u c (left - 1) q K)) (sym se)
-          (expands-share rule m s u c left p J size n z (sym e ∙ not-false h k) x j count q K i (g .count) qe Ke)
-
-      pub shares-all : (j : ℕ) → j ≤ s → s ≤ j → (l : List ℕ) (n : ℕ) (l′ : List ℕ) (r : ℕ) → Grown (joined j (sharing rule m s u c (left - 1) p J)) l n l′ r
-          → Grown (emitted rule m s u c left p J) l n l′ r
-      unfolding sharing
-      shares-all j a b l n l′ r g =
-          let q : j ≡ s = omega arith in
-          grown-as _ _ l n l′ r (ap (λ (i : ℕ). joined i (through rule m s u c (left - 1) p J)) q ∙ sym (emitted-each rule m s u c left p J z (sym e ∙ not-false h k))) g
-
-pub shares-more : (rule : List ℕ) (m s u c v p J j q K : ℕ) (l₀ l l′ : List ℕ) (n count r : ℕ) → Grown (joined j (sharing rule m s u c v p J)) l₀ n l count
-    → Grown (emitted rule m s u c v q K) l count l′ r → q ≡ bitOr p (2 ^ (j * m + v)) → K ≡ bitOr J (2 ^ j) → Grown (joined (j + 1) (sharing rule m s u c v p J)) l₀ n l′ r
+pub shares-more : (rule : List ℕ) (m s r c v p J j q K : ℕ) (l₀ l l′ : List ℕ) (n count k : ℕ) → Grown (joined j (sharing rule m s r c v p J)) l₀ n l count
+    → Grown (emitted rule m s r c m q K) l count l′ k → q ≡ bitOr p (2 ^ (m * j + v)) → K ≡ bitOr J (2 ^ j) → Grown (joined (j + 1) (sharing rule m s r c v p J)) l₀ n l′ k
 unfolding sharing
-shares-more rule m s u c v p J j q K l₀ l l′ n count r g f qe Ke =
-    grown-more (sharing rule m s u c v p J) j l₀ l l′ n count r g (grown-as _ _ l count l′ r (ap₂ (emitted rule m s u c v) qe Ke) f)
+shares-more rule m s r c v p J j q K l₀ l l′ n count k g f qe Ke =
+    grown-more (sharing rule m s r c v p J) j l₀ l l′ n count k g (grown-as _ _ l count l′ k (ap₂ (emitted rule m s r c m) qe Ke) f)

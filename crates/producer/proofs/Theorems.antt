@@ -1,53 +1,68 @@
 -- What producing promises, of a permutation within the limits: 16 is answered exactly when the box cannot be shared, over all component functions;
 -- and what is produced reads as the direct sharing, whose stage is correct and non-complete.
-use mathlib.Core.Path.{_≡_, refl, sym, ap, _∙_, subst}
-use mathlib.Core.Logic.{_↔_, ⊎-elim}
-use mathlib.Core.Bool.{Bool, true, false, not}
+use mathlib.Core.Path.{_≡_, refl, sym, _∙_, subst}
+use mathlib.Core.Logic.{_↔_, ⊎-elim, _≢_}
+use mathlib.Core.Bool.{Bool, true, false}
 use mathlib.Core.List.{List, [], _∷_}
 use Prim.Native.Nat.{ℕ, _^_, _≤_, _<_}
+use native.Mathlib.Decide.{decLt}
 use native.Mathlib.Omega.{arith}
-use lib.Dec.{eqb, ltb, leb}
+use lib.Dec.{ltb, leb}
 use lib.ListN.{length, take, drop}
-use lib.Seq.{take-append-seam, drop-append-seam}
-use borrow.Author.Tests.{eqb-true, eq-eqb, ne-eqb, leb-false, lt-leb, ltb-false, le-ltb, not-false}
-use Rattle.finite.specs.Tests.{pick}
-use Rattle.finite.specs.Maps.{repeats}
-use Rattle.finite.proofs.Testing.{true-or-false, pick-true, pick-false}
+use borrow.Author.Tests.{eqb-true, leb-true, leb-false, ltb-false, lt-ltb, le-ltb, not-false}
+use Rattle.finite.specs.Faults.{firstFault}
+use Rattle.finite.proofs.Testing.{true-or-false, not-true-false, pick-true}
 use Rattle.finite.proofs.Maps.{repeats→injective, injective→repeats}
-use Rattle.anf.specs.Tables.{entriesBelow, entry}
+use Rattle.finite.proofs.Faults.{fault-here, fault-past, fault-none, other-fault, no-fault}
+use Rattle.anf.specs.Tables.{entry}
 use Rattle.anf.specs.NormalForm.{degree}
 use Rattle.anf.proofs.Tables.{entries-at, entries-intro}
 use Rattle.design.specs.Limits.{broken}
 use Rattle.design.specs.Design.{WellFormed}
 use Rattle.design.specs.Reading.{means, reading}
-use Rattle.design.proofs.Limits.{bounds}
+use Rattle.design.proofs.Limits.{bounds, refusal-checked}
 use Rattle.design.proofs.Theorems.{encode-reads}
+use Rattle.design.proofs.Producing.{success-file, success-rest, refusal-after}
 use Rattle.threshold.specs.Stages.{component, correct, nonComplete, Correct, NonComplete}
 use Rattle.threshold.specs.Chain.{chained}
 use Rattle.threshold.proofs.Tests.{correct↔, nonComplete↔}
 use Rattle.producer.specs.Direct.{directStage, directSharing, Shareable, Box}
 use Rattle.producer.specs.Producing.{produced, producedReason, outputAfter}
+use Rattle.producer.specs.inside.Expanding.{TableTested}
+use Rattle.producer.proofs.Answering.{table-tested, reason-degree, reason-last}
 use Rattle.producer.proofs.Stage.{direct-correct, direct-non-complete}
 use Rattle.producer.proofs.Formed.{sharing-formed}
 use Rattle.producer.proofs.Shareable.{shareable-low, low-shareable}
 
--- the tests that come before 16
--- a refusal that is not given: its test does not pass, and what follows gives none
-no-refusal : (b : Bool) (r rest : ℕ) → 0 < r → pick b r rest ≡ 0 → (b ≡ false) × (rest ≡ 0)
-no-refusal true r rest p e = absurd (omega arith)
-no-refusal false r rest p e = (refl, e)
-
 module _ (m s : ℕ) (t : List ℕ) (room : ℕ) where
-  abbrev sixteen : ℕ
-  sixteen = pick (leb s (degree m (entry t))) 16 (pick (ltb room (length (produced m s t))) 17 0)
+  -- a permutation within the limits passes the tests that come before 16
+  tested : Box m s t → TableTested m s t room
+  tested b =
+      table-tested m s t room (b .limits) (b .table .size)
+      (entries-intro t (2 ^ m) (λ x l. b .table .below x (subst (λ (n : ℕ). x < n) (b .table .size) l)))
+      (injective→repeats (2 ^ m) (entry t) (b .injective))
 
-  pub past-table : Box m s t → producedReason m s t room ≡ sixteen
+  -- an answer of none of the numbers up to 16 says that they all passed
+  pub past-degree : (n : ℕ) → ((k : ℕ) → 0 < k → k ≤ 16 → k ≢ n) → producedReason m s t room ≡ n
+      → Box m s t × (degree m (entry t) < s) × (firstFault ((ltb room (length (produced m s t)), 17) ∷ []) 0 ≡ n)
   unfolding producedReason
-  past-table b =
-      pick-false (broken m s 1) 4 _ (b .limits)
-      ∙ pick-false (not (eqb (length t) (2 ^ m))) 3 _ (ap not (eq-eqb _ _ (b .table .size)))
-      ∙ pick-false (not (entriesBelow t (2 ^ m))) 5 _ (ap not (entries-intro t (2 ^ m) (λ x l. b .table .below x (subst (λ (n : ℕ). x < n) (b .table .size) l))))
-      ∙ pick-false (repeats (2 ^ m) (entry t)) 8 _ (injective→repeats (2 ^ m) (entry t) (b .injective))
+  past-degree n away e =
+      let b : broken m s 1 ≡ false =
+      not-true-false (broken m s 1) (λ z. away 4 (omega arith) (omega arith)
+      (sym (refusal-checked m s 1 ∙ pick-true (broken m s 1) 4 0 z) ∙ sym (fault-here (broken m s 1) _ _ 0 z) ∙ e)) in
+      let size = other-fault _ 3 _ 0 n (away 3 (omega arith) (omega arith)) (sym (fault-past (broken m s 1) _ _ 0 b) ∙ e) in
+      let below = other-fault _ 5 _ 0 n (away 5 (omega arith) (omega arith)) (size .1) in
+      let once = other-fault _ 8 _ 0 n (away 8 (omega arith) (omega arith)) (below .1) in
+      let low = other-fault _ 16 _ 0 n (away 16 (omega arith) (omega arith)) (once .1) in
+      let z : length t ≡ 2 ^ m = eqb-true _ _ (not-false _ (size .0)) in (
+        record {
+          limits = b;
+          table = record { size = z; below = λ x l. entries-at t (2 ^ m) (not-false _ (below .0)) x (subst (λ (k : ℕ). x < k) (sym z) l) };
+          injective = repeats→injective (2 ^ m) (entry t) (once .0);
+        },
+        leb-false _ _ (low .0),
+        low .1,
+      )
 
   -- ---- 16
 
@@ -60,59 +75,55 @@ module _ (m s : ℕ) (t : List ℕ) (room : ℕ) where
     where
       to : producedReason m s t room ≡ 16 → Shareable m s t → ⊥
       to e F =
-          let n : sixteen ≡ pick (ltb room (length (produced m s t))) 17 0 =
-          pick-false (leb s (degree m (entry t))) 16 _ (lt-leb s (degree m (entry t)) (shareable-low m s t (some b) F)) in
-          last (ltb room (length (produced m s t))) (sym n ∙ sym (past-table b) ∙ e)
-        where
-          last : (x : Bool) → pick {A = ℕ} x 17 0 ≡ 16 → ⊥
-          last true q = omega arith
-          last false q = omega arith
+          let last = other-fault _ 17 [] 0 16 (λ q. omega arith) (sym (reason-last m s t room (tested b) (shareable-low m s t (some b) F)) ∙ e) in
+          let z : _≡_ {A = ℕ} 0 16 = sym (fault-none 0) ∙ last .1 in
+          omega arith
 
       from : (Shareable m s t → ⊥) → producedReason m s t room ≡ 16
       from n =
-          past-table b
-          ∙ ⊎-elim (λ (q : leb s (degree m (entry t)) ≡ true). pick-true (leb s (degree m (entry t))) 16 _ q)
+          ⊎-elim (λ (q : leb s (degree m (entry t)) ≡ true). reason-degree m s t room (tested b) (leb-true s (degree m (entry t)) q))
           (λ (q : leb s (degree m (entry t)) ≡ false). absurd (n (low-shareable m s t (some b) (b .table) (leb-false s (degree m (entry t)) q))))
           (true-or-false (leb s (degree m (entry t))))
 
-  -- ---- what success says of the table
+  -- ---- 17 and 0
 
-  pub record Accepted : Type 0 where
+  -- for a permutation within the limits, of degree below s, the file's length decides
+  pub seventeen-exactly : Box m s t → degree m (entry t) < s → producedReason m s t room ≡ 17 ↔ (room < length (produced m s t))
+  seventeen-exactly b low = (to, λ l. reason-last m s t room (tested b) low ∙ fault-here _ 17 _ 0 (lt-ltb _ _ l))
+    where
+      to : producedReason m s t room ≡ 17 → room < length (produced m s t)
+      to e = at (decLt room (length (produced m s t)))
+        where
+          at : Dec (room < length (produced m s t)) → room < length (produced m s t)
+          at (yes l) = l
+          at (no f) =
+              let l : length (produced m s t) ≤ room = omega arith in
+              let past = fault-past {A = ℕ} (ltb room (length (produced m s t))) 17 [] 0 (le-ltb room (length (produced m s t)) l) in
+              let z : _≡_ {A = ℕ} 0 17 = sym (fault-none 0) ∙ sym past ∙ sym (reason-last m s t room (tested b) low) ∙ e in
+              absurd (omega arith)
+
+  pub record Succeeds : Type 0 where
     pub box : Box m s t
     pub low : degree m (entry t) < s
     pub fits : length (produced m s t) ≤ room
 
-  pub accepted : producedReason m s t room ≡ 0 → Accepted
-  unfolding producedReason
-  accepted e =
-      let a = no-refusal (broken m s 1) 4 _ (omega arith) e in
-      let b = no-refusal (not (eqb (length t) (2 ^ m))) 3 _ (omega arith) (a .1) in
-      let c = no-refusal (not (entriesBelow t (2 ^ m))) 5 _ (omega arith) (b .1) in
-      let d = no-refusal (repeats (2 ^ m) (entry t)) 8 _ (omega arith) (c .1) in
-      let f = no-refusal (leb s (degree m (entry t))) 16 _ (omega arith) (d .1) in
-      let g = no-refusal (ltb room (length (produced m s t))) 17 0 (omega arith) (f .1) in
-      let size : length t ≡ 2 ^ m = eqb-true _ _ (not-false _ (b .0)) in
-      record {
-        box = record {
-          limits = a .0;
-          table = record { size = size; below = λ x l. entries-at t (2 ^ m) (not-false _ (c .0)) x (subst (λ (n : ℕ). x < n) (sym size) l) };
-          injective = repeats→injective (2 ^ m) (entry t) (d .0);
-        };
-        low = leb-false _ _ (f .0);
-        fits = ltb-false _ _ (g .0);
-      }
+  -- 0 is answered exactly for a permutation within the limits, of degree below s, whose file fits
+  pub success-exactly : producedReason m s t room ≡ 0 ↔ Succeeds
+  success-exactly = (to, from)
+    where
+      to : producedReason m s t room ≡ 0 → Succeeds
+      to e =
+          let p = past-degree 0 (λ k l h z. omega arith) e in
+          record { box = p .0; low = p .1; fits = ltb-false _ _ (no-fault _ 17 [] (omega arith) (p .2) .0) }
 
-  pub acceptance : Accepted → producedReason m s t room ≡ 0
-  acceptance a =
-      past-table (a .box)
-      ∙ pick-false (leb s (degree m (entry t))) 16 _ (lt-leb s (degree m (entry t)) (a .low))
-      ∙ pick-false (ltb room (length (produced m s t))) 17 0 (le-ltb room (length (produced m s t)) (a .fits))
+      from : Succeeds → producedReason m s t room ≡ 0
+      from a = reason-last m s t room (tested (a .box)) (a .low) ∙ fault-past _ 17 _ 0 (le-ltb _ _ (a .fits)) ∙ fault-none 0
 
 -- ---- what is produced
 
 -- The produced file reads, and means one stage, with G equal to S, that is correct and non-complete: as propositions of the component functions, and as the
 -- tests that a verdict makes. So with enough workspace no verdict but 0 and 14 is left.
-pub record Sound (m s : ℕ) (t : List ℕ) : Type 0 where
+pub record ProducedSound (m s : ℕ) (t : List ℕ) : Type 0 where
   pub formed : WellFormed (directSharing m s t)
   pub reads : reading (produced m s t) ≡ means (directSharing m s t)
   pub one-stage : directSharing m s t .stages ≡ directStage m s t ∷ []
@@ -123,7 +134,7 @@ pub record Sound (m s : ℕ) (t : List ℕ) : Type 0 where
   pub correct-test : correct m s (directStage m s t) ≡ true
   pub nonComplete-test : nonComplete m s (directStage m s t) ≡ true
 
-pub produced-sound : (m s : ℕ) (t : List ℕ) → Box m s t → degree m (entry t) < s → Sound m s t
+pub produced-sound : (m s : ℕ) (t : List ℕ) → Box m s t → degree m (entry t) < s → ProducedSound m s t
 unfolding directSharing directStage chained
 produced-sound m s t b low =
     let w = sharing-formed m s t (b .limits) (b .table) in
@@ -142,23 +153,18 @@ produced-sound m s t b low =
 
 -- ---- the lent output
 
--- on success the file stands at its start, whatever stood there: its bytes depend on m, s and the table alone
-pub output-file : (m s : ℕ) (t out : List ℕ) → producedReason m s t (length out) ≡ 0
-    → take (length (produced m s t)) (outputAfter m s t out) ≡ produced m s t
-unfolding outputAfter
-output-file m s t out e =
-    ap (take (length (produced m s t))) (pick-true (eqb (producedReason m s t (length out)) 0) _ out (eq-eqb _ _ e))
-    ∙ take-append-seam (produced m s t) (drop (length (produced m s t)) out)
+module _ (m s : ℕ) (t out : List ℕ) where
+  -- on success the file stands at its start, whatever stood there: its bytes depend on m, s and the table alone
+  pub output-file : producedReason m s t (length out) ≡ 0 → take (length (produced m s t)) (outputAfter m s t out) ≡ produced m s t
+  unfolding outputAfter
+  output-file e = success-file _ (produced m s t) e out
 
--- and past the file nothing has changed
-pub output-rest : (m s : ℕ) (t out : List ℕ) → producedReason m s t (length out) ≡ 0
-    → drop (length (produced m s t)) (outputAfter m s t out) ≡ drop (length (produced m s t)) out
-unfolding outputAfter
-output-rest m s t out e =
-    ap (drop (length (produced m s t))) (pick-true (eqb (producedReason m s t (length out)) 0) _ out (eq-eqb _ _ e))
-    ∙ drop-append-seam (produced m s t) (drop (length (produced m s t)) out)
+  -- and past the file nothing has changed
+  pub output-rest : producedReason m s t (length out) ≡ 0 → drop (length (produced m s t)) (outputAfter m s t out) ≡ drop (length (produced m s t)) out
+  unfolding outputAfter
+  output-rest e = success-rest _ (produced m s t) e out
 
--- a refusal leaves the output untouched
-pub output-refused : (m s : ℕ) (t out : List ℕ) → (producedReason m s t (length out) ≡ 0 → ⊥) → outputAfter m s t out ≡ out
-unfolding outputAfter
-output-refused m s t out n = pick-false (eqb (producedReason m s t (length out)) 0) _ out (ne-eqb _ _ n)
+  -- a refusal leaves the output untouched
+  pub output-refused : producedReason m s t (length out) ≢ 0 → outputAfter m s t out ≡ out
+  unfolding outputAfter
+  output-refused n = refusal-after _ (produced m s t) n out

@@ -2,9 +2,9 @@
 use Prim.Native.Nat.{ℕ}
 use mathlib.Core.List.{List, [], _∷_, _++_}
 use Rattle.finite.specs.Tests.{tabulate}
-use Rattle.producer.specs.declared.Produced.{Produced}
+use Rattle.design.specs.declared.Produced.{Produced}
 
-pub record Row : Type 0 where
+pub record ProducingRow : Type 0 where
   pub m : ℕ
   pub s : ℕ
   pub table : List ℕ
@@ -13,11 +13,11 @@ pub record Row : Type 0 where
   pub after : List ℕ
 
 -- a table that is produced into an output of so many bytes, each 9
-abbrev row : ℕ → ℕ → List ℕ → ℕ → ℕ → List ℕ → Row
+abbrev row : ℕ → ℕ → List ℕ → ℕ → ℕ → List ℕ → ProducingRow
 row m s t room size file = record { m = m; s = s; table = t; output = tabulate room (λ i. 9); answer = record { reason = 0; length = size }; after = file }
 
 -- a refusal, which leaves the output as it is
-abbrev no : ℕ → ℕ → List ℕ → ℕ → ℕ → Row
+abbrev no : ℕ → ℕ → List ℕ → ℕ → ℕ → ProducingRow
 no m s t room reason =
     record { m = m; s = s; table = t; output = tabulate room (λ i. 9); answer = record { reason = reason; length = 0 }; after = tabulate room (λ i. 9) }
 
@@ -26,7 +26,7 @@ abbrev pub file51 : List ℕ
 file51 =
     3 ∷ 0 ∷ 1 ∷ 0 ∷ 1 ∷ 3 ∷ 1 ∷ 2 ∷ 0 ∷ 2 ∷ 0 ∷ 1 ∷ 0 ∷ 2 ∷ 0 ∷ 2 ∷ 0 ∷ 1 ∷ 0 ∷ 8 ∷ 0 ∷ 3 ∷ 0 ∷ 0 ∷ 0 ∷ 0 ∷ 0 ∷ 2 ∷ 0 ∷ 0 ∷ 0 ∷ 4 ∷ 0 ∷ 3 ∷ 0 ∷ 4 ∷ 0 ∷ 0 ∷ 0 ∷ 4 ∷ 0 ∷ 3 ∷ 0 ∷ 1 ∷ 0 ∷ 0 ∷ 0 ∷ 0 ∷ 0 ∷ 4 ∷ 0 ∷ []
 
-abbrev pub rows : List Row
+abbrev pub rows : List ProducingRow
 rows =
     -- 1 0 with three shares, into an output that it fills and into one that is longer
     row 1 3 (1 ∷ 0 ∷ []) 51 51 file51 ∷

@@ -16,7 +16,7 @@ use Rattle.threshold.specs.Stages.{Correct, NonComplete}
 
 -- p is a product of the term u: a share is chosen for each variable of u, and p names that share's bit of it and no other
 unfoldable pub isProduct : ℕ → ℕ → ℕ → ℕ → Bool
-isProduct m s u p = all m (λ v. eqb (count s (λ j. has p (j * m + v))) (bit (has u v)))
+isProduct m s u p = all m (λ v. eqb (count s (λ j. has p (m * j + v))) (bit (has u v)))
 
 -- the set J of the chosen shares of a product
 unfoldable pub chosen : ℕ → ℕ → ℕ → ℕ

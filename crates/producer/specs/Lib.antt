@@ -1,5 +1,5 @@
 -- The direct producer.
 pub mod Direct
 pub mod Producing
-pub mod Expanding
 pub mod Bench
+pub mod inside

@@ -1,40 +1,61 @@
--- The answer of producing, and the output afterwards.
-use Prim.Native.Nat.{ℕ, _^_}
-use mathlib.Core.Bool.{not}
-use mathlib.Core.List.{List, _++_}
-use lib.ListN.{length, drop}
+-- "Producing": the answer, and the output afterwards.
+use Prim.Native.Nat.{ℕ, _+_, _*_, _^_}
+use mathlib.Core.Bool.{Bool, not}
+use mathlib.Core.List.{List, [], _∷_}
+use lib.ListN.{length}
 use lib.Dec.{eqb, ltb, leb}
-use Rattle.finite.specs.Tests.{pick}
+use lib.Count.{ones}
 use Rattle.finite.specs.Maps.{repeats}
-use Rattle.anf.specs.Tables.{entriesBelow, entry}
+use Rattle.finite.specs.Tests.{pick, total}
+use Rattle.finite.specs.Faults.{firstFault}
+use Rattle.anf.specs.Tables.{entry, entriesBelow}
 use Rattle.anf.specs.NormalForm.{degree}
 use Rattle.design.specs.Limits.{broken}
+use Rattle.design.specs.Layout.{checked, refusalOf}
 use Rattle.design.specs.Encode.{encode}
+use Rattle.design.specs.Writing.{writingAnswer, writingAfter}
 use Rattle.producer.specs.Direct.{directSharing}
-use Rattle.producer.specs.declared.Produced.{Produced}
+use Rattle.design.specs.declared.Produced.{Produced}
 
 -- the file that is written
 unfoldable pub produced : ℕ → ℕ → List ℕ → List ℕ
 produced m s t = encode (directSharing m s t)
 
--- the first refusal in the published order, or 0
+-- the refusals in the published order
+abbrev pub producedFaults : ℕ → ℕ → List ℕ → ℕ → List (Bool × ℕ)
+producedFaults m s t room =
+    -- m or s breaks a limit: 4, the number of the head's answer
+    (broken m s 1, refusalOf (checked m s 1)) ∷
+    -- the table has not 2^m bytes
+    (not (eqb (length t) (2 ^ m)), 3) ∷
+    -- an entry is 2^m or more
+    (not (entriesBelow t (2 ^ m)), 5) ∷
+    -- one repeats
+    (repeats (2 ^ m) (entry t), 8) ∷
+    -- the degree is s or more
+    (leb s (degree m (entry t)), 16) ∷
+    -- the file does not fit the lent output
+    (ltb room (length (produced m s t)), 17) ∷
+    []
+
+-- the number of the refusal, or 0
 unfoldable pub producedReason : ℕ → ℕ → List ℕ → ℕ → ℕ
-producedReason m s t room =
-    pick (broken m s 1) 4
-    (pick (not (eqb (length t) (2 ^ m))) 3
-    (pick (not (entriesBelow t (2 ^ m))) 5
-    (pick (repeats (2 ^ m) (entry t)) 8
-    (pick (leb s (degree m (entry t))) 16
-    (pick (ltb room (length (produced m s t))) 17 0)))))
+producedReason m s t room = firstFault (producedFaults m s t room) 0
 
 -- the answer: a refusal has length 0
 unfoldable pub producing : ℕ → ℕ → List ℕ → ℕ → Produced
-producing m s t room = record {
-  reason = producedReason m s t room;
-  length = pick (eqb (producedReason m s t room) 0) (length (produced m s t)) 0;
-}
+producing m s t room = writingAnswer (producedReason m s t room) (produced m s t)
 
 -- the output afterwards: untouched on a refusal, else the file and then what stood past it
 unfoldable pub outputAfter : ℕ → ℕ → List ℕ → List ℕ → List ℕ
-outputAfter m s t out =
-    pick (eqb (producedReason m s t (length out)) 0) (produced m s t ++ drop (length (produced m s t)) out) out
+outputAfter m s t out = writingAfter (producedReason m s t (length out)) (produced m s t) out
+
+-- ---- how much output is always enough
+
+-- at most so many products in the lists of one output bit: s^d for each term of d variables, d below s
+unfoldable pub productsMost : ℕ → ℕ → ℕ
+productsMost m s = total (2 ^ m) (λ u. pick (ltb (ones u) s) (s ^ ones u) 0)
+
+-- the head, S, G, the heads of m × s lists, 4 bytes a product, the end
+unfoldable pub producedMost : ℕ → ℕ → ℕ
+producedMost m s = 7 + (4 + 2 ^ m) + (4 + 2 ^ m) + (4 * (m * s) + 4 * (m * productsMost m s)) + 4

@@ -2,7 +2,7 @@
 use design::stands_before;
 use finite::power;
 ghost use mathlib.Core.Path.{_≡_};
-ghost use Prim.Native.Nat.{_+_, _^_, _<_, _≤_};
+ghost use Prim.Native.Nat.{_+_, _-_, _^_, _<_, _≤_};
 ghost use lib.Bits.{bitOr};
 ghost use lib.ListN.{length, getD, set, take};
 ghost use Rattle.finite.specs.Tests.{pick};
@@ -10,7 +10,7 @@ ghost use Rattle.finite.specs.Sets.{has as hasElement};
 ghost use Rattle.anf.specs.Terms.{before};
 ghost use Rattle.design.specs.Limits.{greatestTerms};
 ghost use Rattle.producer.specs.Direct.{directList};
-ghost use Rattle.producer.specs.Expanding.{ending, emitted, inserted, Grown, brought, ruleTables, Expands, Gathers};
+ghost use Rattle.producer.specs.inside.Expanding.{ending, emitted, inserted, Grown, brought, ruleTables, Highest, Expands, Gathers};
 
 // The component to which a product goes, by the set of its chosen shares: for 3 shares, for 4, for 5. Of all shares there is none.
 const RULES: [u8; 56] = [
@@ -95,6 +95,22 @@ fn with(x: u32, i: usize) -> u32
     x | (1 << i)
 }
 
+// The highest element of a set that has one.
+fn highest(x: u32) -> usize
+    requires { ⌜ 0 < x ⌝ }
+    ensures { λ r. ⌜ Highest x r ⌝ }
+{
+    (31 - u32::leading_zeros(x)) as usize
+}
+
+// The set x without its highest element i.
+fn without(x: u32, i: usize) -> u32
+    requires { ⌜ Highest x i × (i < 32) ⌝ }
+    ensures { λ r. ⌜ r ≡ x - 2 ^ i ⌝ }
+{
+    x - (1 << i)
+}
+
 // The component that the rule names for the chosen shares.
 fn component(rule: &[u8], chosen: u32) -> usize
     requires { ⌜ chosen < length (now rule) ⌝ }
@@ -118,7 +134,7 @@ fn settle(list: &mut [u32], i: usize, t: u32) -> u32
 }
 
 // Puts t into its place among the first n terms.
-fn place(list: &mut [u32], n: usize, t: u32)
+fn insert(list: &mut [u32], n: usize, t: u32)
     requires { ⌜ n < length (now list) ⌝ }
     ensures { λ _. ⌜ take (n + 1) (now (list .exit)) ≡ inserted t (take n (now (list .entry))) ⌝ }
 {
@@ -139,39 +155,36 @@ fn emit(rule: &[u8], to: usize, p: u32, chosen: u32, list: &mut [u32], n: usize)
     if component(rule, chosen) != to {
         return n;
     }
-    place(list, n, p);
+    insert(list, n, p);
     n + 1
 }
 
-// The same of the products of the variables of u below `left`, on top of p.
+// The same of the products of the variables of u, on top of p.
 fn expand(
     rule: &[u8],
     m: usize,
     s: usize,
     u: u32,
     to: usize,
-    left: usize,
     p: u32,
     chosen: u32,
     list: &mut [u32],
     n: usize,
 ) -> usize
-    requires { ⌜ Expands (now rule) m s left chosen (length (now list)) n (emitted (now rule) m s u to left p chosen) ⌝ }
-    ensures { λ r. ⌜ Grown (emitted (now (rule .entry)) m s u to left p chosen) (now (list .entry)) n (now (list .exit)) r ⌝ }
+    requires { ⌜ Expands (now rule) m s u chosen (length (now list)) n (emitted (now rule) m s u to m p chosen) ⌝ }
+    ensures { λ r. ⌜ Grown (emitted (now (rule .entry)) m s u to m p chosen) (now (list .entry)) n (now (list .exit)) r ⌝ }
 {
-    if left == 0 {
+    if u == 0 {
         return emit(rule, to, p, chosen, list, n);
     }
-    let v = left - 1;
-    if !has(u, v) {
-        return expand(rule, m, s, u, to, v, p, chosen, list, n);
-    }
+    let v = highest(u);
+    let rest = without(u, v);
     let mut count = n;
     let mut j: usize = 0;
     while j < s {
-        let q = with(p, j * m + v);
+        let q = with(p, m * j + v);
         let with_j = with(chosen, j);
-        count = expand(rule, m, s, u, to, v, q, with_j, list, count);
+        count = expand(rule, m, s, rest, to, q, with_j, list, count);
         j += 1;
     }
     count
@@ -189,13 +202,13 @@ fn add_term(
     list: &mut [u32],
     n: usize,
 ) -> usize
-    requires { ⌜ (b < 32) × Expands (now rule) m s m 0 (length (now list)) n (brought (now rule) m s to b word u) ⌝ }
+    requires { ⌜ (b < 32) × Expands (now rule) m s u 0 (length (now list)) n (brought (now rule) m s to b word u) ⌝ }
     ensures { λ r. ⌜ Grown (brought (now (rule .entry)) m s to b word u) (now (list .entry)) n (now (list .exit)) r ⌝ }
 {
     if !has(word as u32, b) {
         return n;
     }
-    expand(rule, m, s, u, to, m, 0, 0, list, n)
+    expand(rule, m, s, u, to, 0, 0, list, n)
 }
 
 // Gathers the list of bit b of the component `to` from the coefficient words, and answers how many terms it has.

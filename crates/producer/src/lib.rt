@@ -9,32 +9,22 @@ use anf::words_degree;
 use design::Checked;
 use design::GREATEST_TERMS;
 use design::Head;
+use design::Produced;
+use design::no_file;
 use expand::rules;
-use file::lists_size;
+use file::file_size;
 use file::put_file;
 use finite::power;
 ghost use mathlib.Core.Path.{_≡_};
 ghost use mathlib.Core.Bool.{false};
 ghost use lib.ListN.{length};
 ghost use Rattle.design.specs.Limits.{broken};
+ghost use Rattle.design.specs.Layout.{checked, refusalOf};
 ghost use Rattle.producer.specs.Producing.{producing, outputAfter};
-ghost use Rattle.producer.specs.Expanding.{Gathers, Permutes, Ready, refused};
-
-// The number of a refusal, or 0 and the length of the file.
-#[repr(C)]
-pub struct Produced {
-    pub reason: usize,
-    pub length: usize,
-}
-
-fn refusal(reason: usize) -> Produced
-    ensures { λ r. ⌜ r ≡ refused reason ⌝ }
-{
-    Produced { reason, length: 0 }
-}
+ghost use Rattle.producer.specs.inside.Expanding.{Gathers, TableTested, DegreeTested};
 
 // Writes the file of the direct sharing, if it fits. It is known to fit before a byte is written.
-fn share_by(
+fn write_by_rule(
     rule: &[u8],
     m: usize,
     s: usize,
@@ -43,13 +33,13 @@ fn share_by(
     list: &mut [u32],
     output: &mut [u8],
 ) -> Produced
-    requires { ⌜ Ready m s (now table) (now words) (length (now output)) × Gathers (now rule) m s (length (now words)) (length (now list)) ⌝ }
+    requires { ⌜ DegreeTested m s (now table) (now words) (length (now output)) × Gathers (now rule) m s (length (now words)) (length (now list)) ⌝ }
     ensures { λ r. ⌜ r ≡ producing m s (now (table .entry)) (length (now (output .entry))) ⌝ }
     ensures { λ _. ⌜ now (output .exit) ≡ outputAfter m s (now (table .entry)) (now (output .entry)) ⌝ }
 {
-    let size = 19 + 2 * table.len() + lists_size(rule, m, s, words, list);
+    let size = file_size(rule, m, s, table, words, list);
     if output.len() < size {
-        return refusal(17);
+        return no_file(17);
     }
     put_file(rule, m, s, table, words, list, output);
     Produced {
@@ -59,8 +49,8 @@ fn share_by(
 }
 
 // The same by the part of the rule's tables for s shares.
-fn share(m: usize, s: usize, table: &[u8], words: &[u8], output: &mut [u8]) -> Produced
-    requires { ⌜ Ready m s (now table) (now words) (length (now output)) ⌝ }
+fn write_sharing(m: usize, s: usize, table: &[u8], words: &[u8], output: &mut [u8]) -> Produced
+    requires { ⌜ DegreeTested m s (now table) (now words) (length (now output)) ⌝ }
     ensures { λ r. ⌜ r ≡ producing m s (now (table .entry)) (length (now (output .entry))) ⌝ }
     ensures { λ _. ⌜ now (output .exit) ≡ outputAfter m s (now (table .entry)) (now (output .entry)) ⌝ }
 {
@@ -68,12 +58,12 @@ fn share(m: usize, s: usize, table: &[u8], words: &[u8], output: &mut [u8]) -> P
     let tables = rules();
     let rule = &tables[sets - 8..sets - 8 + sets];
     let mut list = [0u32; GREATEST_TERMS];
-    share_by(rule, m, s, table, words, &mut list, output)
+    write_by_rule(rule, m, s, table, words, &mut list, output)
 }
 
 // The test of the degree, for a permutation table.
-fn share_permutation(m: usize, s: usize, table: &[u8], output: &mut [u8]) -> Produced
-    requires { ⌜ Permutes m s (now table) (length (now output)) ⌝ }
+fn produce_permutation(m: usize, s: usize, table: &[u8], output: &mut [u8]) -> Produced
+    requires { ⌜ TableTested m s (now table) (length (now output)) ⌝ }
     ensures { λ r. ⌜ r ≡ producing m s (now (table .entry)) (length (now (output .entry))) ⌝ }
     ensures { λ _. ⌜ now (output .exit) ≡ outputAfter m s (now (table .entry)) (now (output .entry)) ⌝ }
 {
@@ -82,9 +72,9 @@ fn share_permutation(m: usize, s: usize, table: &[u8], output: &mut [u8]) -> Pro
     to_coefficients(m, table, &mut words);
     let degree = words_degree(&words[0..table.len()]);
     if s <= degree {
-        return refusal(16);
+        return no_file(16);
     }
-    share(m, s, table, &words, output)
+    write_sharing(m, s, table, &words, output)
 }
 
 // The tests of the table, for m and s within the limits.
@@ -95,15 +85,25 @@ fn produce_within(m: usize, s: usize, table: &[u8], output: &mut [u8]) -> Produc
 {
     let n = power(m);
     if table.len() != n {
-        return refusal(3);
+        return no_file(3);
     }
     if !entries_below(table, n) {
-        return refusal(5);
+        return no_file(5);
     }
     if repeats(table) {
-        return refusal(8);
+        return no_file(8);
     }
-    share_permutation(m, s, table, output)
+    produce_permutation(m, s, table, output)
+}
+
+// The number of the refusal of a head with one stage, or 0.
+fn head_reason(m: usize, s: usize) -> usize
+    ensures { λ r. ⌜ r ≡ refusalOf (checked m s 1) ⌝ }
+{
+    match Head::new(m, s, 1) {
+        Checked::Good(_) => 0,
+        Checked::Beyond => 4,
+    }
 }
 
 // Writes the direct sharing of a permutation table of 2^m entries of m bits, with s shares, as a design file.
@@ -111,8 +111,9 @@ pub fn produce(m: usize, s: usize, table: &[u8], output: &mut [u8]) -> Produced
     ensures { λ r. ⌜ r ≡ producing m s (now (table .entry)) (length (now (output .entry))) ⌝ }
     ensures { λ _. ⌜ now (output .exit) ≡ outputAfter m s (now (table .entry)) (now (output .entry)) ⌝ }
 {
-    match Head::new(m, s, 1) {
-        Checked::Good(_) => produce_within(m, s, table, output),
-        Checked::Beyond => refusal(4),
+    let reason = head_reason(m, s);
+    if reason != 0 {
+        return no_file(reason);
     }
+    produce_within(m, s, table, output)
 }

@@ -4,7 +4,7 @@ use mathlib.Core.Path.{_≡_, refl, sym, ap, ap₂, _∙_, subst}
 use mathlib.Core.Bool.{_&&_}
 use Prim.Native.Nat.{ℕ, zero, suc, _+_, _-_, _*_, _/_, _%_, _^_, _≤_, _<_}
 use native.Mathlib.Nat.{le-of-suc-le-suc, not-suc-le-zero, add-zero, add-comm, add-assoc, mul-zero, mul-one, mul-suc, mul-comm, mul-assoc, mul-add, add-mul}
-use native.Mathlib.Nat.{add-sub-of-le, mul-le-mul-left, mul-le-mul-right, div-one, div-add-mod', div-div-eq-div-mul, div-lt-iff-lt-mul, mod-one, mod-lt, mod-eq-of-lt}
+use native.Mathlib.Nat.{add-sub-of-le, mul-le-mul-left, div-one, div-add-mod', div-div-eq-div-mul, div-lt-iff-lt-mul, mod-one, mod-lt, mod-eq-of-lt}
 use native.Mathlib.Omega.{arith}
 use lib.Arith.{digits-lt, digits-div, digits-mod, mod-mul, lt-one}
 use lib.Pow.{pow-pos, pow-add, field, mod-mod-pow, shr-shr, low}
@@ -227,18 +227,21 @@ sum-step w zero total rest t p e = absurd (not-suc-le-zero p)
 -- ---- the bits of shares
 
 -- bit i of share j
-pub share-bit : (m j p i : ℕ) → i < m → share m j p / 2 ^ i % 2 ≡ p / 2 ^ (j * m + i) % 2
+pub share-bit : (m j p i : ℕ) → i < m → share m j p / 2 ^ i % 2 ≡ p / 2 ^ (m * j + i) % 2
 unfolding share
 share-bit m j p i h =
     let d : m ≡ m - suc i + 1 + i = omega arith in
     ap (λ (y : ℕ). p / 2 ^ (m * j) % 2 ^ y / 2 ^ i % 2) d
     ∙ ap (λ (y : ℕ). y % 2) (field (p / 2 ^ (m * j)) (m - suc i + 1) i)
     ∙ mod-mod-pow (p / 2 ^ (m * j) / 2 ^ i) (m - suc i) 1
-    ∙ ap (λ (y : ℕ). y % 2) (shr-shr p (m * j) i ∙ ap (λ (y : ℕ). p / 2 ^ (y + i)) (mul-comm m j))
+    ∙ ap (λ (y : ℕ). y % 2) (shr-shr p (m * j) i)
 
-pub share-has : (m j p i : ℕ) → i < m → has (share m j p) i ≡ has p (j * m + i)
-share-has m j p i h = has-congr (share m j p) p i (j * m + i) (share-bit m j p i h)
+pub share-has : (m j p i : ℕ) → i < m → has (share m j p) i ≡ has p (m * j + i)
+share-has m j p i h = has-congr (share m j p) p i (m * j + i) (share-bit m j p i h)
 
--- the place of a bit of a share is within the sharing
-pub place-lt : (m s j i : ℕ) → j < s → i < m → j * m + i < m * s
-place-lt m s j i l h = omega (arith, mul-le-mul-right m l, mul-comm m s)
+-- the place of a bit tells the share and the bit
+pub place-div : (m j i : ℕ) → i < m → (m * j + i) / m ≡ j
+place-div m j i h = ap (λ (x : ℕ). (x + i) / m) (mul-comm m j) ∙ digits-div j h
+
+pub place-mod : (m j i : ℕ) → i < m → (m * j + i) % m ≡ i
+place-mod m j i h = ap (λ (x : ℕ). (x + i) % m) (mul-comm m j) ∙ digits-mod j h

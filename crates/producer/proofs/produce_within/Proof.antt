@@ -8,8 +8,8 @@ use Rattle.producer.proofs.produce_within.Tie as tie
 power-requires : tie.Need-power-requires
 power-requires c κs = search shifts
 
-refusal-requires : tie.Need-refusal-requires
-refusal-requires c κs = search needs
+no-file-requires : tie.Need-no-file-requires
+no-file-requires c κs = search needs
 
 returns : tie.Need-returns
 returns c = answered (search missized)
@@ -17,8 +17,8 @@ returns c = answered (search missized)
 entries-below-requires : tie.Need-entries-below-requires
 entries-below-requires c κs = search needs
 
-refusal-requires-2 : tie.Need-refusal-requires-2
-refusal-requires-2 c κs = search needs
+no-file-requires-2 : tie.Need-no-file-requires-2
+no-file-requires-2 c κs = search needs
 
 returns-2 : tie.Need-returns-2
 returns-2 c = answered (search entry-beyond)
@@ -26,14 +26,14 @@ returns-2 c = answered (search entry-beyond)
 repeats-requires : tie.Need-repeats-requires
 repeats-requires c κs = search needs
 
-refusal-requires-3 : tie.Need-refusal-requires-3
-refusal-requires-3 c κs = search needs
+no-file-requires-3 : tie.Need-no-file-requires-3
+no-file-requires-3 c κs = search needs
 
 returns-3 : tie.Need-returns-3
 returns-3 c = answered (search entry-repeats)
 
-share-permutation-requires : tie.Need-share-permutation-requires
-share-permutation-requires c κs = search is-permutation
+produce-permutation-requires : tie.Need-produce-permutation-requires
+produce-permutation-requires c κs = search is-permutation
 
 same-length : tie.Need-same-length
 same-length c = search needs
@@ -46,14 +46,14 @@ produce-within-spec =
     tie.close
     (tie.spec
     power-requires
-    refusal-requires
+    no-file-requires
     returns
     entries-below-requires
-    refusal-requires-2
+    no-file-requires-2
     returns-2
     repeats-requires
-    refusal-requires-3
+    no-file-requires-3
     returns-3
-    share-permutation-requires
+    produce-permutation-requires
     same-length
     returns-4)

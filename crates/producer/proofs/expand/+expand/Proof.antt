@@ -1,23 +1,26 @@
--- The proof of the cycle of calls {expand}. The measure is the number of variables left. The loop's invariant: the products of the first j shares are in their places.
+-- The proof of the cycle of calls {expand}. The measure is the number of variables left in the term. The loop's invariant: the products of the first j shares are in their places.
 use mathlib.Core.Path.{_≡_, refl}
 use Prim.Native.Nat.{ℕ, _-_, _≤_, _<_}
 use native.Mathlib.Omega.{arith}
+use lib.Count.{ones}
 use lib.ListN.{length}
 use borrow.Fn.Kinds.{In}
 use borrow.Fn.PlainCycle.{Measures, is, falls, and}
-use Rattle.producer.specs.Expanding.{joined, Grown}
-use Rattle.producer.proofs.Stepping.{chosen-low, room-end, ends, variable-low, skip-asks, skips, sharing, grown-none, row-fits, place-fits, place-low, share-low, share-next, share-asks, shares-more, shares-all}
+use Rattle.producer.specs.inside.Expanding.{joined, Grown}
+use Rattle.producer.proofs.Stepping.{chosen-low, room-end, ends, variable-low, fewer-left}
+use Rattle.producer.proofs.Stepping.{sharing, grown-none, row-fits, place-fits, place-low, shares-low, share-next, share-asks, shares-more, shares-all}
 use Rattle.producer.proofs.expand.expand.Reads as expand
 use Rattle.producer.proofs.expand.expand.Kinds as expand-kinds
 use Rattle.producer.proofs.expand.emit.Reads as emit-reads
-use Rattle.producer.proofs.expand.has.Reads as has-reads
+use Rattle.producer.proofs.expand.highest.Reads as highest-reads
+use Rattle.producer.proofs.expand.without.Reads as without-reads
 use Rattle.producer.proofs.expand.with.Reads as with-reads
 use Rattle.producer.proofs.expand.+expand.Lts-expand as expand-lts
 use Rattle.producer.proofs.expand.+expand.{statement}
 use Rattle.producer.proofs.expand.+expand.Tie.{close}
 
 abbrev μ-expand : Measures 2 expand-kinds.ps ℕ
-μ-expand κs a = a .1 .1 .1 .1 .1 .0
+μ-expand κs a = ones (a .1 .1 .1 .0)
 
 abbrev expand-at : ℕ → In 2 expand-kinds.ps
 expand-at t = and 2 expand-kinds.ps (is 2 expand-kinds.ps μ-expand t) expand.Pre
@@ -26,15 +29,15 @@ abbrev expand-below : ℕ → In 2 expand-kinds.ps
 expand-below t = and 2 expand-kinds.ps (falls 2 expand-kinds.ps _<_ μ-expand t) expand.Pre
 
 abbrev expand-Inv-loop : expand-lts.InvT-loop
-expand-Inv-loop rule m s u to left p chosen list₀ n v count₀ j₀ list count j =
-    (j ≤ s) × (length list ≡ length list₀) × Grown (joined j (sharing rule m s u to v p chosen)) list₀ n list count
+expand-Inv-loop rule m s u to p chosen list₀ n v rest count₀ j₀ list count j =
+    (j ≤ s) × (length list ≡ length list₀) × Grown (joined j (sharing rule m s rest to v p chosen)) list₀ n list count
 
 abbrev expand-μ-loop : expand-lts.MeasureT-loop
-expand-μ-loop rule m s u to left p chosen list₀ n v count₀ j₀ list count j = s - j
+expand-μ-loop rule m s u to p chosen list₀ n v rest count₀ j₀ list count j = s - j
 
 pub +expand-spec : {M : Type 1} → statement M
 +expand-spec = close μ-expand λ t. expand-lts.spec
-    (emit-reads.Asked, emit-reads.Learnt, has-reads.Asked, has-reads.Learnt, expand-below t, expand.Post, with-reads.Asked, with-reads.Learnt)
+    (emit-reads.Asked, emit-reads.Learnt, highest-reads.Asked, highest-reads.Learnt, without-reads.Asked, without-reads.Learnt, with-reads.Asked, with-reads.Learnt, expand-below t, expand.Post)
     (expand-at t)
     expand.Post
     expand-Inv-loop
@@ -43,25 +46,20 @@ pub +expand-spec : {M : Type 1} → statement M
     (λ c κs. (search chosen-low, search room-end))
     (λ c. search)
     (λ c. search ends)
-    -- sub-v, has-requires
-    (λ c. omega arith)
-    (λ c κs. search variable-low)
-    -- u does not have the next variable: expand-requires, same-length-2, returns-2
-    (λ c κs. (omega arith, search skip-asks))
-    (λ c. search)
-    (λ c. search skips)
-    -- it does: loop-holds
+    -- highest-requires, without-requires, loop-holds
+    (λ c κs. omega arith)
+    (λ c κs. (search, search variable-low))
     (λ c. (omega arith, refl, search grown-none))
-    -- mul-with, add-with, with-requires, with-requires-2, expand-requires-2
+    -- mul-with, add-with, with-requires, with-requires-2, expand-requires
     (λ c. search row-fits)
     (λ c. search place-fits)
     (λ c κs. search place-low)
-    (λ c κs. search share-low)
-    (λ c κs. (omega arith, search share-asks))
+    (λ c κs. search shares-low)
+    (λ c κs. (search fewer-left, search share-asks))
     -- add-j, loop-less, loop-again
     (λ c. search share-next)
     (λ c. omega arith)
     (λ c. (omega arith, cc, search shares-more))
-    -- same-length-3, returns-3
+    -- same-length-2, returns-2
     (λ c. search)
     (λ c. search shares-all)

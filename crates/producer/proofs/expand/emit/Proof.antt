@@ -10,8 +10,8 @@ component-requires c κs = search needs
 returns : tie.Need-returns
 returns c = search goes-elsewhere
 
-place-requires : tie.Need-place-requires
-place-requires c κs = search room-here
+insert-requires : tie.Need-insert-requires
+insert-requires c κs = search room-here
 
 add-result : tie.Need-add-result
 add-result c = search needs
@@ -28,7 +28,7 @@ emit-spec =
     (tie.spec
     component-requires
     returns
-    place-requires
+    insert-requires
     add-result
     same-length
     returns-2)

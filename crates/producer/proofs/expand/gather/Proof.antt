@@ -3,7 +3,7 @@ use mathlib.Core.Path.{_≡_, refl}
 use Prim.Native.Nat.{_-_, _≤_}
 use native.Mathlib.Omega.{arith}
 use lib.ListN.{length}
-use Rattle.producer.specs.Expanding.{joined, Grown}
+use Rattle.producer.specs.inside.Expanding.{joined, Grown}
 use Rattle.producer.proofs.Stepping.{bringing, grown-none, width-shifts, bit-low, word-there, term-cast, term-next, term-asked, gathers-more, all-count, all-few, all-list}
 use Rattle.producer.proofs.expand.gather.Statement.{statement}
 use Rattle.producer.proofs.expand.gather.Tie as tie

@@ -4,8 +4,8 @@ use Prim.Native.Nat.{_-_, _*_, _≤_}
 use native.Mathlib.Omega.{arith}
 use lib.ListN.{length, getD, take}
 use Rattle.producer.specs.Direct.{directLists}
-use Rattle.producer.specs.Expanding.{listRecords}
-use Rattle.producer.proofs.Filing.{none-counted, bits-fit, some-bit, bit-within, gathers-still, turn-fits, size-fits, size-fits-more, terms-fit, bound-more, size-bound}
+use Rattle.design.specs.inside.Overwriting.{listRecords}
+use Rattle.producer.proofs.Filing.{none-counted, bits-fit, some-bit, bit-within, gathers-still, turn-fits, size-fits, terms-fit, body-short, bound-more, size-bound}
 use Rattle.producer.proofs.Writing.{size-more, size-all}
 use Rattle.producer.proofs.file.lists_size.Statement.{statement}
 use Rattle.producer.proofs.file.lists_size.Tie as tie
@@ -32,14 +32,14 @@ rem-gather c = search some-bit
 gather-requires : tie.Need-gather-requires Inv-loop μ-loop
 gather-requires c κs = (search bit-within, search gathers-still)
 
+mul-record-size : tie.Need-mul-record-size Inv-loop μ-loop
+mul-record-size c = search terms-fit
+
+record-size-requires : tie.Need-record-size-requires Inv-loop μ-loop
+record-size-requires c κs = search body-short
+
 add-size : tie.Need-add-size Inv-loop μ-loop
 add-size c = search size-fits
-
-mul-size : tie.Need-mul-size Inv-loop μ-loop
-mul-size c = search terms-fit
-
-add-size-2 : tie.Need-add-size-2 Inv-loop μ-loop
-add-size-2 c = search size-fits-more
 
 add-i : tie.Need-add-i Inv-loop μ-loop
 add-i c = search turn-fits
@@ -67,9 +67,9 @@ lists-size-spec =
     div-gather
     rem-gather
     gather-requires
+    mul-record-size
+    record-size-requires
     add-size
-    mul-size
-    add-size-2
     add-i
     loop-less
     loop-again

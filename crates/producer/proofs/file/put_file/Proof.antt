@@ -10,8 +10,8 @@ put-tables-requires c κs = (search, search, search tables-fit)
 put-lists-requires : tie.Need-put-lists-requires
 put-lists-requires c κs = (search, search lists-fit)
 
-put-head-requires : tie.Need-put-head-requires
-put-head-requires c κs = (search end-fits, search needs, search needs)
+put-end-requires : tie.Need-put-end-requires
+put-end-requires c κs = search end-fits
 
 same-length : tie.Need-same-length
 same-length c = search needs
@@ -28,7 +28,7 @@ put-file-spec =
     (tie.spec
     put-tables-requires
     put-lists-requires
-    put-head-requires
+    put-end-requires
     same-length
     same-length-2
     returns)

@@ -3,9 +3,8 @@ use mathlib.Core.Path.{_≡_, refl}
 use Prim.Native.Nat.{_+_, _-_, _≤_}
 use native.Mathlib.Omega.{arith}
 use lib.ListN.{length, getD, take}
-use Rattle.design.specs.Bytes.{overwrite}
+use Rattle.design.specs.inside.Overwriting.{overwrite, listRecords}
 use Rattle.producer.specs.Direct.{directLists}
-use Rattle.producer.specs.Expanding.{listRecords}
 use Rattle.producer.proofs.Filing.{none-before, no-list, bits-fit, some-bit, bit-within, gathers-still, turn-fits, terms-within}
 use Rattle.producer.proofs.Writing.{at-more, at-all, list-room, lists-more, lists-all}
 use Rattle.producer.proofs.file.put_lists.Statement.{statement}

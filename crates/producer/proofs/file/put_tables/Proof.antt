@@ -4,23 +4,14 @@ use Rattle.producer.proofs.Filing.{width-byte, shares-byte, table-short
 use Rattle.producer.proofs.file.put_tables.Statement.{statement}
 use Rattle.producer.proofs.file.put_tables.Tie as tie
 
-cast-t8 : tie.Need-cast-t8
-cast-t8 c = search width-byte
-
-cast-t9 : tie.Need-cast-t9
-cast-t9 c = search shares-byte
-
-slice-aggregate-put-record : tie.Need-slice-aggregate-put-record
-slice-aggregate-put-record c = search needs
+put-numbers-requires : tie.Need-put-numbers-requires
+put-numbers-requires c κs = (search head-fits, search (needs, width-byte), search (needs, shares-byte), search needs)
 
 put-record-requires : tie.Need-put-record-requires
-put-record-requires c κs = (search head-fits, search needs, search needs)
+put-record-requires c κs = (search box-fits, search table-short, search needs)
 
 put-record-requires-2 : tie.Need-put-record-requires-2
-put-record-requires-2 c κs = (search box-fits, search table-short, search needs)
-
-put-record-requires-3 : tie.Need-put-record-requires-3
-put-record-requires-3 c κs = (search stage-fits, search table-short, search needs)
+put-record-requires-2 c κs = (search stage-fits, search table-short, search needs)
 
 same-length : tie.Need-same-length
 same-length c = search needs
@@ -32,11 +23,8 @@ pub put-tables-spec : {M : Type 1} → statement M
 put-tables-spec =
     tie.close
     (tie.spec
-    cast-t8
-    cast-t9
-    slice-aggregate-put-record
+    put-numbers-requires
     put-record-requires
     put-record-requires-2
-    put-record-requires-3
     same-length
     returns)

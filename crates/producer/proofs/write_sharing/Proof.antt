@@ -1,8 +1,8 @@
 -- `share` meets its contract: the part of the tables for s shares is a rule.
 use borrow.Author.Needs.{needs}
 use Rattle.producer.proofs.Leaving.{shifts-shares, sets-low, sets-add, part-within, part-gathers}
-use Rattle.producer.proofs.share.Statement.{statement}
-use Rattle.producer.proofs.share.Tie as tie
+use Rattle.producer.proofs.write_sharing.Statement.{statement}
+use Rattle.producer.proofs.write_sharing.Tie as tie
 
 power-requires : tie.Need-power-requires
 power-requires c κs = search shifts-shares
@@ -28,11 +28,11 @@ part-rule-start c = search needs
 part-rule-end : tie.Need-part-rule-end
 part-rule-end c = search part-within
 
-slice-aggregate-share-by : tie.Need-slice-aggregate-share-by
-slice-aggregate-share-by c = search needs
+slice-aggregate-write-by-rule : tie.Need-slice-aggregate-write-by-rule
+slice-aggregate-write-by-rule c = search needs
 
-share-by-requires : tie.Need-share-by-requires
-share-by-requires c κs = (search, search part-gathers)
+write-by-rule-requires : tie.Need-write-by-rule-requires
+write-by-rule-requires c κs = (search, search part-gathers)
 
 same-length : tie.Need-same-length
 same-length c = search needs
@@ -40,8 +40,8 @@ same-length c = search needs
 returns : tie.Need-returns
 returns c = search needs
 
-pub share-spec : {M : Type 1} → statement M
-share-spec =
+pub write-sharing-spec : {M : Type 1} → statement M
+write-sharing-spec =
     tie.close
     (tie.spec
     power-requires
@@ -52,7 +52,7 @@ share-spec =
     sub-rule-3
     part-rule-start
     part-rule-end
-    slice-aggregate-share-by
-    share-by-requires
+    slice-aggregate-write-by-rule
+    write-by-rule-requires
     same-length
     returns)

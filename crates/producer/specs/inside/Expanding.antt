@@ -2,21 +2,20 @@
 use Prim.Native.Nat.{ℕ, zero, suc, _+_, _*_, _^_, _≤_, _<_}
 use mathlib.Core.Path.{_≡_}
 use mathlib.Core.Bool.{true, false}
-use mathlib.Core.List.{List, [], _∷_, _++_, map}
+use mathlib.Core.List.{List, [], _∷_, _++_}
 use lib.Dec.{eqb, ltb, leb}
 use lib.Bits.{bitOr}
 use lib.ListN.{length, getD, take}
 use Rattle.finite.specs.Tests.{pick, tabulate}
 use Rattle.finite.specs.Sets.{has}
+use Rattle.finite.specs.Faults.{firstFault}
 use Rattle.anf.specs.NormalForm.{subsetSum, degree}
 use Rattle.anf.specs.Tables.{entriesBelow, entry}
 use Rattle.anf.specs.Terms.{before}
 use Rattle.design.specs.Limits.{greatestTerms, broken}
-use Rattle.design.specs.Bytes.{termBytes}
-use Rattle.design.specs.Encode.{join, aRecord, encode}
+use Rattle.design.specs.Encode.{aRecord, encode}
 use Rattle.producer.specs.Direct.{componentFor}
 use Rattle.producer.specs.Producing.{produced, producedReason}
-use Rattle.producer.specs.declared.Produced.{Produced}
 
 -- f 0, f 1, .. f (n - 1), joined
 unfoldable pub joined : ℕ → (ℕ → List ℕ) → List ℕ
@@ -31,7 +30,7 @@ ending rule c p J = pick (eqb (getD rule J 0) c) (p ∷ []) []
 unfoldable pub emitted : List ℕ → ℕ → ℕ → ℕ → ℕ → ℕ → ℕ → ℕ → List ℕ
 emitted rule m s u c zero p J = ending rule c p J
 emitted rule m s u c (suc v) p J =
-    pick (has u v) (joined s (λ j. emitted rule m s u c v (bitOr p (2 ^ (j * m + v))) (bitOr J (2 ^ j)))) (emitted rule m s u c v p J)
+    pick (has u v) (joined s (λ j. emitted rule m s u c v (bitOr p (2 ^ (m * j + v))) (bitOr J (2 ^ j)))) (emitted rule m s u c v p J)
 
 -- t put into its place: of two terms the one that stands before the other stays, and the other goes on
 unfoldable pub inserted : ℕ → List ℕ → List ℕ
@@ -60,11 +59,16 @@ pub record Follows (s : ℕ) (rule : List ℕ) : Type 0 where
   pub size : length rule ≡ 2 ^ s
   pub at : (J : ℕ) → J < 2 ^ s → getD rule J 0 ≡ componentFor s J
 
--- what the expansion of a term asks for
-pub record Expands (rule : List ℕ) (m s left J size n : ℕ) (ts : List ℕ) : Type 0 where
+-- i is the highest element of the set x
+pub record Highest (x i : ℕ) : Type 0 where
+  pub least : 2 ^ i ≤ x
+  pub most : x < 2 ^ (i + 1)
+
+-- what the expansion of the set u of variables asks for
+pub record Expands (rule : List ℕ) (m s u J size n : ℕ) (ts : List ℕ) : Type 0 where
   pub limits : broken m s 1 ≡ false
   pub sets : length rule ≡ 2 ^ s
-  pub within : left ≤ m
+  pub within : u < 2 ^ m
   pub chosen : J < 2 ^ s
   pub room : n + length ts ≤ size
 
@@ -75,15 +79,7 @@ pub record Gathers (rule : List ℕ) (m s words size : ℕ) : Type 0 where
   pub words-all : 2 ^ m ≤ words
   pub room : greatestTerms ≤ size
 
--- the record of a list
-abbrev pub listRecord : List ℕ → List ℕ
-listRecord ts = aRecord 3 (termBytes ts)
-
--- the records of these lists
-unfoldable pub listRecords : List (List ℕ) → List ℕ
-listRecords ls = join (map listRecord ls)
-
--- the records before them: the head, G and S, which are equal
+-- the records before the lists: the head, S and G, which are equal
 unfoldable pub tableRecords : ℕ → ℕ → List ℕ → List ℕ
 tableRecords m s t = aRecord 1 (m ∷ s ∷ 1 ∷ []) ++ (aRecord 2 t ++ aRecord 2 t)
 
@@ -92,20 +88,16 @@ unfoldable pub oneStageFile : ℕ → ℕ → List ℕ → List (List ℕ) → L
 oneStageFile m s t ls = encode (record { m = m; s = s; k = 1; box = t; stages = record { table = t; lists = ls } ∷ [] })
 
 -- every test before that of the degree has passed
-pub record Permutes (m s : ℕ) (t : List ℕ) (room : ℕ) : Type 0 where
+pub record TableTested (m s : ℕ) (t : List ℕ) (room : ℕ) : Type 0 where
   pub limits : broken m s 1 ≡ false
   pub size : length t ≡ 2 ^ m
   pub below : entriesBelow t (2 ^ m) ≡ true
-  pub passed : producedReason m s t room ≡ pick (leb s (degree m (entry t))) 16 (pick (ltb room (length (produced m s t))) 17 0)
+  pub passed : producedReason m s t room ≡ firstFault ((leb s (degree m (entry t)), 16) ∷ (ltb room (length (produced m s t)), 17) ∷ []) 0
 
 -- every test but the last has passed, and words are the coefficient words of the table
-pub record Ready (m s : ℕ) (t words : List ℕ) (room : ℕ) : Type 0 where
+pub record DegreeTested (m s : ℕ) (t words : List ℕ) (room : ℕ) : Type 0 where
   pub limits : broken m s 1 ≡ false
   pub size : length t ≡ 2 ^ m
-  pub passed : producedReason m s t room ≡ pick (ltb room (length (produced m s t))) 17 0
+  pub passed : producedReason m s t room ≡ firstFault ((ltb room (length (produced m s t)), 17) ∷ []) 0
   pub words-all : 2 ^ m ≤ length words
   pub coefficients : (u : ℕ) → u < 2 ^ m → getD words u 0 ≡ subsetSum m (entry t) u
-
--- the answer of a refusal
-abbrev pub refused : ℕ → Produced
-refused r = record { reason = r; length = 0 }

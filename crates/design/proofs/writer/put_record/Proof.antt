@@ -1,8 +1,9 @@
 -- `put_record` meets its contract: a head, and the body behind it.
+use native.Mathlib.Omega.{arith}
 use borrow.Author.Needs.{needs}
-use Rattle.producer.proofs.Filing.{head-room, body-room, record-put, record-end}
-use Rattle.producer.proofs.file.put_record.Statement.{statement}
-use Rattle.producer.proofs.file.put_record.Tie as tie
+use Rattle.design.proofs.Putting.{head-room, body-room, record-put, record-end}
+use Rattle.design.proofs.writer.put_record.Statement.{statement}
+use Rattle.design.proofs.writer.put_record.Tie as tie
 
 put-head-requires : tie.Need-put-head-requires
 put-head-requires c κs = (search head-room, search, search)
@@ -13,11 +14,11 @@ add-put-bytes c = search needs
 put-bytes-requires : tie.Need-put-bytes-requires
 put-bytes-requires c κs = search body-room
 
+record-size-requires : tie.Need-record-size-requires
+record-size-requires c κs = search
+
 add-result : tie.Need-add-result
 add-result c = search needs
-
-add-result-2 : tie.Need-add-result-2
-add-result-2 c = search needs
 
 same-length : tie.Need-same-length
 same-length c = search needs
@@ -32,7 +33,7 @@ put-record-spec =
     put-head-requires
     add-put-bytes
     put-bytes-requires
+    record-size-requires
     add-result
-    add-result-2
     same-length
     returns)

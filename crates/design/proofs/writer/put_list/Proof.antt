@@ -3,10 +3,11 @@ use mathlib.Core.Path.{_≡_, refl}
 use Prim.Native.Nat.{_+_, _-_, _≤_}
 use native.Mathlib.Omega.{arith}
 use lib.ListN.{length, take}
-use Rattle.design.specs.Bytes.{termBytes, overwrite}
-use Rattle.producer.proofs.Filing.{no-term, term-room, term-more, list-end, list-put}
-use Rattle.producer.proofs.file.put_list.Statement.{statement}
-use Rattle.producer.proofs.file.put_list.Tie as tie
+use Rattle.design.specs.Bytes.{termBytes}
+use Rattle.design.specs.inside.Overwriting.{overwrite}
+use Rattle.design.proofs.Putting.{no-term, term-room, term-more, list-end, list-put}
+use Rattle.design.proofs.writer.put_list.Statement.{statement}
+use Rattle.design.proofs.writer.put_list.Tie as tie
 
 abbrev Inv-loop : tie.InvT-loop
 Inv-loop out₀ at list n j₀ out j =
@@ -51,14 +52,14 @@ loop-less c = omega arith
 loop-again : tie.Need-loop-again Inv-loop μ-loop
 loop-again c = (omega arith, cc, search term-more)
 
+mul-record-size : tie.Need-mul-record-size Inv-loop μ-loop
+mul-record-size c = omega arith
+
+record-size-requires : tie.Need-record-size-requires Inv-loop μ-loop
+record-size-requires c κs = omega arith
+
 add-result : tie.Need-add-result Inv-loop μ-loop
 add-result c = omega arith
-
-mul-result : tie.Need-mul-result Inv-loop μ-loop
-mul-result c = omega arith
-
-add-result-2 : tie.Need-add-result-2 Inv-loop μ-loop
-add-result-2 c = omega arith
 
 same-length : tie.Need-same-length Inv-loop μ-loop
 same-length c = cc
@@ -84,8 +85,8 @@ put-list-spec =
     add-j
     loop-less
     loop-again
+    mul-record-size
+    record-size-requires
     add-result
-    mul-result
-    add-result-2
     same-length
     returns)

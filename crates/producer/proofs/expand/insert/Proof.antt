@@ -4,11 +4,11 @@ use Prim.Native.Nat.{_-_, _≤_}
 use native.Mathlib.Omega.{arith}
 use lib.ListN.{length, take}
 use borrow.Author.Needs.{needs}
-use Rattle.producer.specs.Expanding.{inserted}
+use Rattle.producer.specs.inside.Expanding.{inserted}
 use Rattle.producer.proofs.Inserting.{going}
 use Rattle.producer.proofs.Stepping.{place-on, place-end}
-use Rattle.producer.proofs.expand.place.Statement.{statement}
-use Rattle.producer.proofs.expand.place.Tie as tie
+use Rattle.producer.proofs.expand.insert.Statement.{statement}
+use Rattle.producer.proofs.expand.insert.Tie as tie
 
 abbrev Inv-loop : tie.InvT-loop
 Inv-loop list₀ n t carry₀ i₀ list carry i = (i ≤ n) × (length list ≡ length list₀) × (going n list i carry ≡ inserted t (take n list₀))
@@ -43,8 +43,8 @@ same-length c = search needs
 returns : tie.Need-returns Inv-loop μ-loop
 returns c = search place-end
 
-pub place-spec : {M : Type 1} → statement M
-place-spec =
+pub insert-spec : {M : Type 1} → statement M
+insert-spec =
     tie.close
     (tie.spec
     Inv-loop

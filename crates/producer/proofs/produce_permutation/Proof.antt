@@ -1,9 +1,9 @@
--- `share_permutation` meets its contract: each way out is a law of `Leaving`, whose premises `search` finds among what is known there.
+-- `produce_permutation` meets its contract: each way out is a law of `Leaving`, whose premises `search` finds among what is known there.
 use borrow.Author.Needs.{needs}
 use Rattle.producer.proofs.Answering.{answered}
 use Rattle.producer.proofs.Leaving.{points-within, words-within, degree-high, passes-all}
-use Rattle.producer.proofs.share_permutation.Statement.{statement}
-use Rattle.producer.proofs.share_permutation.Tie as tie
+use Rattle.producer.proofs.produce_permutation.Statement.{statement}
+use Rattle.producer.proofs.produce_permutation.Tie as tie
 
 slice-aggregate-to-coefficients : tie.Need-slice-aggregate-to-coefficients
 slice-aggregate-to-coefficients c = search needs
@@ -23,17 +23,17 @@ part-words-degree-end c = search points-within
 words-degree-requires : tie.Need-words-degree-requires
 words-degree-requires c κs = search words-within
 
-refusal-requires : tie.Need-refusal-requires
-refusal-requires c κs = search needs
+no-file-requires : tie.Need-no-file-requires
+no-file-requires c κs = search needs
 
 returns : tie.Need-returns
 returns c = answered (search degree-high)
 
-slice-aggregate-share : tie.Need-slice-aggregate-share
-slice-aggregate-share c = search needs
+slice-aggregate-write-sharing : tie.Need-slice-aggregate-write-sharing
+slice-aggregate-write-sharing c = search needs
 
-share-requires : tie.Need-share-requires
-share-requires c κs = search passes-all
+write-sharing-requires : tie.Need-write-sharing-requires
+write-sharing-requires c κs = search passes-all
 
 same-length : tie.Need-same-length
 same-length c = search needs
@@ -41,8 +41,8 @@ same-length c = search needs
 returns-2 : tie.Need-returns-2
 returns-2 c = search needs
 
-pub share-permutation-spec : {M : Type 1} → statement M
-share-permutation-spec =
+pub produce-permutation-spec : {M : Type 1} → statement M
+produce-permutation-spec =
     tie.close
     (tie.spec
     slice-aggregate-to-coefficients
@@ -51,9 +51,9 @@ share-permutation-spec =
     part-words-degree-start
     part-words-degree-end
     words-degree-requires
-    refusal-requires
+    no-file-requires
     returns
-    slice-aggregate-share
-    share-requires
+    slice-aggregate-write-sharing
+    write-sharing-requires
     same-length
     returns-2)
