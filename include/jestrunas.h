@@ -35,8 +35,12 @@ extern "C" {
 #define JESTRUNAS_WORKSPACE(m, s) (((size_t)1 << ((m) * (s))) / 8)
 #define JESTRUNAS_WORKSPACE_MAX 131072
 
+/* An output that is enough for every file that is produced: none is longer, so with it 17 is never answered. */
+#define JESTRUNAS_PRODUCED_MAX 20867
+
 /* The reasons. Each is given by the operations named after it. */
-#define JESTRUNAS_ACCEPTED 0             /* all: success */
+#define JESTRUNAS_ACCEPTED 0             /* judge: the design is accepted */
+#define JESTRUNAS_OK 0                   /* read, run, produce, passages: done, with no verdict on the design */
 /* Refusals of reading: read, judge, run. */
 #define JESTRUNAS_CUT_SHORT 1            /* a record's head or its body is cut short */
 #define JESTRUNAS_WRONG_KIND 2           /* a record's kind is not the one due */
@@ -61,6 +65,7 @@ extern "C" {
 
 /*
  * The answer of reading and of the verdict.
+ * Reason 0: place is 0 for reading and k, the number of stages, for the verdict; component 0.
  * Reasons 1 to 7: place is the first byte of the record at fault (for 7, the first byte after the end), component 0.
  * Reasons 8, 9, 10: 0, 0. Reasons 11 to 14: place is the stage; component is 0 but for 13.
  */

@@ -24,7 +24,7 @@ int main(void) {
     const uint8_t box[8] = {0, 1, 2, 3, 4, 5, 7, 6}, coefficients[8] = {0, 1, 2, 0, 4, 0, 1, 0}, not_box[2] = {1, 0};
     jestrunas_shares_t shares = {{1, 0, 0, 0, 0}}, large = {{2, 0, 0, 0, 0}};
 
-    expect(is(jestrunas_read(d, sizeof d), JESTRUNAS_ACCEPTED, 0, 0), "read D");
+    expect(is(jestrunas_read(d, sizeof d), JESTRUNAS_OK, 0, 0), "read D");
     expect(is(jestrunas_read(NULL, 0), JESTRUNAS_CUT_SHORT, 0, 0), "read nothing");
     expect(is(jestrunas_judge(NULL, 0, NULL, 0), JESTRUNAS_CUT_SHORT, 0, 0), "judge nothing");
     expect(is(jestrunas_judge(d, sizeof d, NULL, 0), JESTRUNAS_WORKSPACE_TOO_SMALL, 0, 0), "judge D in no workspace");
@@ -36,22 +36,22 @@ int main(void) {
 
     jestrunas_run_t run = jestrunas_run(d, sizeof d, shares);
     const uint8_t ran[5] = {0, 0, 1, 0, 0}, none[5] = {0};
-    expect(run.reason == JESTRUNAS_ACCEPTED && !memcmp(run.shares.share, ran, 5), "run D on 1 0 0");
+    expect(run.reason == JESTRUNAS_OK && !memcmp(run.shares.share, ran, 5), "run D on 1 0 0");
     run = jestrunas_run(d, sizeof d, large);
     expect(run.reason == JESTRUNAS_BAD_SHARE && !memcmp(run.shares.share, none, 5), "run D on 2 0 0");
     expect(jestrunas_run(NULL, 0, shares).reason == JESTRUNAS_CUT_SHORT, "run nothing");
 
     memset(output, 9, sizeof output);
     jestrunas_produced_t made = jestrunas_produce(1, 3, not_box, 2, output, sizeof output);
-    expect(made.reason == JESTRUNAS_ACCEPTED && made.length == 51 && output[51] == 9, "produce 1 0");
+    expect(made.reason == JESTRUNAS_OK && made.length == 51 && output[51] == 9, "produce 1 0");
     expect(is(jestrunas_judge(output, made.length, workspace, 2), JESTRUNAS_ACCEPTED, 1, 0), "judge what is produced");
     made = jestrunas_produce(1, 3, not_box, 2, NULL, 0);
     expect(made.reason == JESTRUNAS_OUTPUT_TOO_SHORT && made.length == 0, "produce into no output");
     expect(jestrunas_produce(4, 2, NULL, 0, NULL, 0).reason == JESTRUNAS_LIMIT_BROKEN, "produce with two shares");
     expect(jestrunas_produce(1, 3, NULL, 0, NULL, 0).reason == JESTRUNAS_WRONG_LENGTH, "produce from no table");
 
-    expect(jestrunas_to_coefficients(3, box, 8, words, 8) == JESTRUNAS_ACCEPTED && !memcmp(words, coefficients, 8), "to coefficients");
-    expect(jestrunas_to_table(3, words, 8, again, 8) == JESTRUNAS_ACCEPTED && !memcmp(again, box, 8), "to table");
+    expect(jestrunas_to_coefficients(3, box, 8, words, 8) == JESTRUNAS_OK && !memcmp(words, coefficients, 8), "to coefficients");
+    expect(jestrunas_to_table(3, words, 8, again, 8) == JESTRUNAS_OK && !memcmp(again, box, 8), "to table");
     expect(jestrunas_to_table(3, words, 8, NULL, 0) == JESTRUNAS_OUTPUT_TOO_SHORT, "to table into no output");
     expect(jestrunas_to_coefficients(0, NULL, 0, NULL, 0) == JESTRUNAS_LIMIT_BROKEN, "to coefficients, no width");
 

@@ -1,4 +1,5 @@
-//! Compares the library with the second implementation: every answer, and every lent byte afterwards.
+//! Compares the library with the second implementation: every answer, and every lent byte afterwards. What is lent stands directly
+//! beside a page that nobody may touch.
 //!
 //!     compare [FILES [SEED]]
 //!
@@ -9,7 +10,7 @@ use compare::hex;
 use compare::lent::{self, Lent};
 use compare::make::{self, D, SIZES};
 use compare::random::Random;
-use jestrunas::native;
+use jestrunas::{native, PRODUCED_MAX, WORKSPACE_MAX};
 use reference::{encode, Answer, Design, Shares};
 use std::fmt::Debug;
 use std::time::Instant;
@@ -47,6 +48,7 @@ struct Comparison {
     random: Random,
     file: Lent,
     lent: Lent,
+    sides: Option<[bool; 2]>,
     files: usize,
     readable: usize,
     differences: usize,
@@ -65,6 +67,7 @@ impl Comparison {
             random: Random::new(seed),
             file: Lent::new(2_000_000),
             lent: Lent::new(200_000),
+            sides: None,
             files: 0,
             readable: 0,
             differences: 0,
@@ -90,10 +93,22 @@ impl Comparison {
         }
     }
 
+    /// Lends a file or a table: directly before the page that nobody may touch, or directly after one, as `sides` says or by chance.
+    fn lend_file(&mut self, file: &[u8]) {
+        let at_end = self.sides.map_or_else(|| !self.random.once_in(4), |[file, _]| file);
+        self.file.put(file, at_end);
+    }
+
+    /// Lends a workspace or an output in the same way.
+    fn lend(&mut self, content: &[u8]) {
+        let at_end = self.sides.map_or_else(|| self.random.once_in(2), |[_, lent]| lent);
+        self.lent.put(content, at_end);
+    }
+
     /// A verdict in a workspace of this length, which holds anything before.
     fn judge(&mut self, file: &[u8], due: Answer, design: Option<&Design>, length: usize) {
         let mut workspace = self.random.bytes(length);
-        self.lent.put(&workspace, self.random.once_in(2));
+        self.lend(&workspace);
         let v = native::judge(self.file.slice(), self.lent.slice());
         let answer = [v.reason, v.place, v.component];
         if let (10..=14 | 0, Some(design)) = (due[0], design) {
@@ -122,8 +137,7 @@ impl Comparison {
     /// Everything that is asked about a file.
     fn compare_file(&mut self, file: &[u8]) {
         self.files += 1;
-        let at_end = !self.random.once_in(4);
-        self.file.put(file, at_end);
+        self.lend_file(file);
         lent::remember(file);
 
         let meaning = reference::read(file);
@@ -220,8 +234,8 @@ impl Comparison {
 
     fn compare_produce(&mut self, m: usize, s: usize, table: &[u8], length: usize) -> Option<Vec<u8>> {
         let before = self.random.bytes(length);
-        self.lent.put(&before, self.random.once_in(2));
-        self.file.put(table, self.random.once_in(2));
+        self.lend(&before);
+        self.lend_file(table);
         let p = native::produce(m, s, self.file.slice(), self.lent.slice());
         let mut after = before;
         let due = reference::produce(m, s, table, &mut after);
@@ -242,7 +256,7 @@ impl Comparison {
         let random = &mut self.random;
         let (mut m, mut s) = make::size(random);
         let mut table = if random.once_in(3) { make::permutation(random, m) } else { make::shareable(random, m, s) };
-        let mut length = 16_583;
+        let mut length = PRODUCED_MAX;
         match random.below(12) {
             0 => m = random.pick(&[0, 7, 8, 20, 64, 255, 256, 1 << 32, usize::MAX, m + 256]),
             1 => s = random.pick(&[0, 1, 2, 6, 7, 64, 255, 256, 1 << 32, usize::MAX, s + 256]),
@@ -259,7 +273,7 @@ impl Comparison {
             6 => table = (0..table.len()).map(|_| random.below(1 << m) as u8).collect(),
             7 => {
                 // an output near the length that the file has
-                let (_, exact) = reference::produce(m, s, &table, &mut vec![0; 16_583]);
+                let (_, exact) = reference::produce(m, s, &table, &mut vec![0; PRODUCED_MAX]);
                 length = (exact + 2).saturating_sub(random.below(5));
             }
             8 => length = random.below(60),
@@ -289,41 +303,68 @@ impl Comparison {
             6 => length = random.below(words.len()),
             _ => {}
         }
+        self.compare_passages(m, &words, length);
+    }
+
+    fn compare_passages(&mut self, m: usize, words: &[u8], length: usize) {
         let before = self.random.bytes(length);
         for back in [false, true] {
-            self.lent.put(&before, self.random.once_in(2));
-            self.file.put(&words, self.random.once_in(2));
+            self.lend(&before);
+            self.lend_file(words);
             let mut after = before.clone();
             let (answer, due) = if back {
-                (native::to_table(m, self.file.slice(), self.lent.slice()), reference::to_table(m, &words, &mut after))
+                (native::to_table(m, self.file.slice(), self.lent.slice()), reference::to_table(m, words, &mut after))
             } else {
                 (
                     native::to_coefficients(m, self.file.slice(), self.lent.slice()),
-                    reference::to_coefficients(m, &words, &mut after),
+                    reference::to_coefficients(m, words, &mut after),
                 )
             };
             let name = if back { "to table" } else { "to coefficients" };
             if answer != due {
-                self.differs(&format!("{name} {m}, output of {length}"), &words, answer, due);
+                self.differs(&format!("{name} {m}, output of {length}"), words, answer, due);
             }
-            if !self.lent.is(&after) || !self.file.is(&words) {
+            if !self.lent.is(&after) || !self.file.is(words) {
                 let now = self.lent.slice().to_vec();
-                self.differs(&format!("{name} {m}, bytes of an output of {length}"), &words, hex(&now), hex(&after));
+                self.differs(&format!("{name} {m}, bytes of an output of {length}"), words, hex(&now), hex(&after));
             }
             self.passages.add(due);
         }
     }
 
-    /// Every length of cut of D and of a produced design, and every single byte of D changed.
-    fn cuts(&mut self) {
-        let mut box3 = vec![0; 16_583];
-        let (_, length) = reference::produce(3, 3, &[0, 1, 2, 3, 4, 5, 7, 6], &mut box3);
+    /// Each operation with what is lent beside the pages that nobody may touch, on every side, in every length near the one due.
+    fn edges(&mut self) {
+        let table = [0, 1, 2, 3, 4, 5, 7, 6];
+        let mut box3 = vec![0; PRODUCED_MAX];
+        let (_, length) = reference::produce(3, 3, &table, &mut box3);
         box3.truncate(length);
-        for whole in [&D[..], &box3] {
-            for length in 0..=whole.len() {
-                self.compare_file(&whole[..length]);
+        for sides in [[true, true], [true, false], [false, true], [false, false]] {
+            self.sides = Some(sides);
+            for whole in [&D[..], &box3] {
+                for length in 0..=whole.len() {
+                    self.compare_file(&whole[..length]);
+                }
+            }
+            self.workspaces();
+            for length in 0..box3.len() + 3 {
+                self.compare_produce(3, 3, &table, length);
+            }
+            for length in 0..table.len() {
+                self.compare_produce(3, 3, &table[..length], PRODUCED_MAX);
+            }
+            for m in 1..=6 {
+                let words: Vec<u8> = (0..1 << m).rev().collect();
+                for length in 0..words.len() + 3 {
+                    self.compare_passages(m, &words, length);
+                    self.compare_passages(m, &words[..length.min(words.len())], words.len());
+                }
             }
         }
+        self.sides = None;
+    }
+
+    /// Every single byte of D changed, and lists of about as many terms as there may be.
+    fn changes(&mut self) {
         for at in 0..D.len() {
             for value in 0..=255 {
                 let mut file = D;
@@ -353,7 +394,7 @@ impl Comparison {
             repeating.table[0] = repeating.table[1];
             for design in [accepted, other_box, wrong, repeating] {
                 let file = encode(&design);
-                self.file.put(&file, true);
+                self.lend_file(&file);
                 self.files += 1;
                 self.readable += 1;
                 let full = reference::verdict(&design, enough);
@@ -364,7 +405,7 @@ impl Comparison {
                         self.judge(&file, due, Some(&design), length);
                     }
                 }
-                self.judge(&file, full, Some(&design), 131_072);
+                self.judge(&file, full, Some(&design), WORKSPACE_MAX);
             }
         }
     }
@@ -381,7 +422,7 @@ impl Comparison {
         }
         let present_like = [0, 1, 2, 3, 4, 5, 6, 7, 8, 9, 10, 11, 12, 13, 15, 14];
         for s in [4, 5] {
-            let file = self.compare_produce(4, s, &present_like, 16_583);
+            let file = self.compare_produce(4, s, &present_like, PRODUCED_MAX);
             self.compare_file(&file.expect("degree 3"));
         }
     }
@@ -444,10 +485,10 @@ fn main() {
     let start = Instant::now();
     lent::watch();
     let mut c = Comparison::new(seed);
-    c.cuts();
-    c.workspaces();
+    c.edges();
+    c.changes();
     c.large();
-    println!("cuts, workspaces and large designs: {} files, {:.1} s", c.files, start.elapsed().as_secs_f64());
+    println!("edges, changes and large designs: {} files, {:.1} s", c.files, start.elapsed().as_secs_f64());
     c.generated(files);
 
     let mut complete = true;

@@ -176,9 +176,9 @@ pub fn numbers(verdict: &Verdict) -> [usize; 3] {
 /// The workspace that is enough for every design: 2^20 / 8 bytes.
 pub const WORKSPACE_MAX: usize = 131_072;
 
-/// An output that is enough for every file that [`produce`] writes: at m = 5 and s = 4, where it is longest, a table of degree 3 has at
-/// most 821 products for each of its 5 bits, of 4 bytes each, with 163 bytes around them. Counted, not proved: a shorter output gives 17.
-pub const PRODUCED_MAX: usize = 16_583;
+/// An output that is enough for every file that [`produce_in`] writes. It is promised that none is longer (docs/PROMISES.md), so with it
+/// [`Reason::OutputTooShort`] is never answered.
+pub const PRODUCED_MAX: usize = 20_867;
 
 fn reason(number: usize) -> Option<Reason> {
     if number == 0 {
@@ -201,7 +201,7 @@ fn done(number: usize) -> Result<(), Reason> {
     reason(number).map_or(Ok(()), Err)
 }
 
-/// Reads a design file: the first fault in file order, reasons 1 to 7.
+/// Reads a design file: the first fault in file order, reasons 1 to 7. `Ok` says that the file reads, and nothing of its verdict.
 pub fn read(file: &[u8]) -> Result<(), Refusal> {
     refusal(native::read(file)).map(|_| ())
 }
@@ -260,6 +260,31 @@ mod tests {
         }
         assert_eq!(Reason::from_number(0), None);
         assert_eq!(Reason::from_number(19), None);
+    }
+
+    /// The number that the C header gives a name.
+    fn in_header(name: &str) -> usize {
+        let header = include_str!("../../../include/jestrunas.h");
+        let define = format!("#define JESTRUNAS_{name} ");
+        let line = header.lines().find_map(|line| line.strip_prefix(&define)).unwrap_or_else(|| panic!("{name}"));
+        line.split(' ').next().unwrap().parse().unwrap()
+    }
+
+    #[test]
+    fn the_header_has_the_same_numbers() {
+        for reason in Reason::ALL {
+            let mut name = String::new();
+            for letter in format!("{reason:?}").chars() {
+                if letter.is_uppercase() && !name.is_empty() {
+                    name.push('_');
+                }
+                name.push(letter.to_ascii_uppercase());
+            }
+            assert_eq!(in_header(&name), reason.number(), "{name}");
+        }
+        assert_eq!((in_header("ACCEPTED"), in_header("OK")), (0, 0));
+        assert_eq!(in_header("WORKSPACE_MAX"), WORKSPACE_MAX);
+        assert_eq!(in_header("PRODUCED_MAX"), PRODUCED_MAX);
     }
 
     #[test]

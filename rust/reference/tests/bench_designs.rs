@@ -15,7 +15,7 @@ fn verdict(file: &[u8]) -> Answer {
 }
 
 fn produced(m: usize, s: usize, table: &[u8]) -> Result<Vec<u8>, usize> {
-    let mut output = vec![0; 16_583];
+    let mut output = vec![0; 20_867];
     let (reason, length) = produce(m, s, table, &mut output);
     output.truncate(length);
     if reason == 0 {
