@@ -96,7 +96,7 @@ fn judge_line(
     requires { ⌜ at < length (now text) ⌝ }
     ensures { λ r. ⌜ (at < r .next) × (r .next ≤ length (now (text .entry))) ⌝ }
 {
-    if text::is_file(text, at) {
+    if text::letter_at(text, at, b'f') {
         let f = text::read_file(text, at, output);
         let n = f.count;
         let judged = judge_file(&output[..n], workspace, tally);

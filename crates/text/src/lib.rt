@@ -5,8 +5,12 @@ mod words;
 pub use words::print_reason;
 ghost use Prim.Native.Nat.{_+_, _*_, _<_, _≤_};
 ghost use mathlib.Core.Path.{_≡_};
-ghost use lib.ListN.{length};
+ghost use lib.ListN.{length, getD};
+ghost use lib.Dec.{eqb};
 ghost use Rattle.io.specs.Counts.{Counts};
+ghost use Rattle.text.specs.Lines.{
+    pastSpaces, placeOf, pastLine, endsAt, digitOf, withDigit, numberAt, entryAt, pastEntry, countAt, entriesOver,
+};
 
 // One line. `good` where it is a request; `next` is the first byte after the line.
 pub struct Request {
@@ -24,24 +28,27 @@ pub struct Number {
 }
 
 // The value of a hexadecimal digit, or 16.
-pub fn digit(b: u8) -> usize
-    ensures { λ r. ⌜ r ≤ 16 ⌝ }
+fn digit(b: u8) -> usize
+    ensures { λ r. ⌜ (r ≡ digitOf b) × (r ≤ 16) ⌝ }
 {
     let x = b as usize;
-    if 48 <= x {
-        if x <= 57 {
-            return x - 48;
-        }
+    if x < 48 {
+        return 16;
     }
-    if 65 <= x {
-        if x <= 70 {
-            return x - 55;
-        }
+    if x <= 57 {
+        return x - 48;
     }
-    if 97 <= x {
-        if x <= 102 {
-            return x - 87;
-        }
+    if x < 65 {
+        return 16;
+    }
+    if x <= 70 {
+        return x - 55;
+    }
+    if x < 97 {
+        return 16;
+    }
+    if x <= 102 {
+        return x - 87;
     }
     16
 }
@@ -49,7 +56,7 @@ pub fn digit(b: u8) -> usize
 // The first byte from `at` on that is no space.
 fn past_spaces(text: &[u8], at: usize) -> usize
     requires { ⌜ at ≤ length (now text) ⌝ }
-    ensures { λ r. ⌜ (at ≤ r) × (r ≤ length (now (text .entry))) ⌝ }
+    ensures { λ r. ⌜ (r ≡ pastSpaces (now (text .entry)) at) × (at ≤ r) × (r ≤ length (now (text .entry))) ⌝ }
 {
     let mut i = at;
     while i < text.len() {
@@ -61,17 +68,29 @@ fn past_spaces(text: &[u8], at: usize) -> usize
     i
 }
 
-// The first byte after the line that `at` stands in.
-fn past_line(text: &[u8], at: usize) -> usize
-    requires { ⌜ at < length (now text) ⌝ }
-    ensures { λ r. ⌜ (at < r) × (r ≤ length (now (text .entry))) ⌝ }
+// The first byte from `at` on that is b, or the text's end.
+fn find(text: &[u8], at: usize, b: u8) -> usize
+    requires { ⌜ at ≤ length (now text) ⌝ }
+    ensures { λ r. ⌜ (r ≡ placeOf (now (text .entry)) at b) × (at ≤ r) × (r ≤ length (now (text .entry))) ⌝ }
 {
     let mut i = at;
     while i < text.len() {
-        if text[i] == 10 {
-            return i + 1;
+        if text[i] == b {
+            return i;
         }
         i += 1;
+    }
+    i
+}
+
+// The first byte after the line that `at` stands in.
+fn past_line(text: &[u8], at: usize) -> usize
+    requires { ⌜ at < length (now text) ⌝ }
+    ensures { λ r. ⌜ (r ≡ pastLine (now (text .entry)) at) × (at < r) × (r ≤ length (now (text .entry))) ⌝ }
+{
+    let i = find(text, at, 10);
+    if i < text.len() {
+        return i + 1;
     }
     i
 }
@@ -79,7 +98,7 @@ fn past_line(text: &[u8], at: usize) -> usize
 // A decimal number, at most 999; a longer one is 999.
 fn read_number(text: &[u8], at: usize) -> Number
     requires { ⌜ at ≤ length (now text) ⌝ }
-    ensures { λ r. ⌜ (at ≤ r .next) × (r .next ≤ length (now (text .entry))) × (r .value ≤ 999) ⌝ }
+    ensures { λ r. ⌜ (r ≡ numberAt (now (text .entry)) at) × (at ≤ r .next) × (r .next ≤ length (now (text .entry))) ⌝ }
 {
     let mut i = at;
     let mut value: usize = 0;
@@ -94,9 +113,10 @@ fn read_number(text: &[u8], at: usize) -> Number
     Number { value, next: i }
 }
 
+// A number with one digit more, at most 999.
 fn capped(value: usize, d: usize) -> usize
     requires { ⌜ (value ≤ 999) × (d ≤ 16) ⌝ }
-    ensures { λ r. ⌜ r ≤ 999 ⌝ }
+    ensures { λ r. ⌜ (r ≡ withDigit value d) × (r ≤ 999) ⌝ }
 {
     let x = 10 * value + d;
     if 999 < x {
@@ -108,7 +128,7 @@ fn capped(value: usize, d: usize) -> usize
 // One entry, of one digit or of two, or 256 where it is no entry.
 fn entry_at(text: &[u8], at: usize, wide: bool) -> usize
     requires { ⌜ at < length (now text) ⌝ }
-    ensures { λ r. ⌜ r ≤ 256 ⌝ }
+    ensures { λ r. ⌜ (r ≡ entryAt (now (text .entry)) at wide) × (r ≤ 256) ⌝ }
 {
     let high = digit(text[at]);
     if 16 <= high {
@@ -131,6 +151,8 @@ fn entry_at(text: &[u8], at: usize, wide: bool) -> usize
 // byte after them.
 fn read_entries(text: &[u8], at: usize, wide: bool, out: &mut [u8]) -> Number
     requires { ⌜ at ≤ length (now text) ⌝ }
+    ensures { λ r. ⌜ r ≡ countAt (now (text .entry)) wide (length (now (out .entry))) at ⌝ }
+    ensures { λ _. ⌜ now (out .exit) ≡ entriesOver (now (text .entry)) wide at (now (out .entry)) ⌝ }
     ensures { λ r. ⌜ (at ≤ r .next) × (r .next ≤ length (now (text .entry))) × Counts (r .value) (now (out .exit)) ⌝ }
 {
     let mut i = at;
@@ -153,19 +175,21 @@ fn read_entries(text: &[u8], at: usize, wide: bool, out: &mut [u8]) -> Number
 // The byte after an entry.
 fn stepped(text: &[u8], at: usize, wide: bool) -> usize
     requires { ⌜ at < length (now text) ⌝ }
-    ensures { λ r. ⌜ (at < r) × (r ≤ length (now (text .entry))) ⌝ }
+    ensures { λ r. ⌜ (r ≡ pastEntry (now (text .entry)) at wide) × (at < r) × (r ≤ length (now (text .entry))) ⌝ }
 {
-    if wide {
-        if at + 2 <= text.len() {
-            return at + 2;
-        }
+    if !wide {
+        return at + 1;
     }
-    at + 1
+    if text.len() < at + 2 {
+        return at + 1;
+    }
+    at + 2
 }
 
 // Whether the line ends at `at`.
 fn ends(text: &[u8], at: usize) -> bool
     requires { ⌜ at ≤ length (now text) ⌝ }
+    ensures { λ r. ⌜ r ≡ endsAt (now (text .entry)) at ⌝ }
 {
     if at < text.len() {
         return text[at] == 10;
@@ -195,11 +219,12 @@ pub fn read_request(text: &[u8], at: usize, table: &mut [u8]) -> Request
     }
 }
 
-// Whether the line at `at` is a line `file HEX`.
-pub fn is_file(text: &[u8], at: usize) -> bool
+// Whether the byte at `at` is this letter.
+pub fn letter_at(text: &[u8], at: usize, letter: u8) -> bool
     requires { ⌜ at < length (now text) ⌝ }
+    ensures { λ r. ⌜ r ≡ eqb (getD (now (text .entry)) at 0) letter ⌝ }
 {
-    text[at] == b'f'
+    text[at] == letter
 }
 
 // The file of the line `file HEX` at `at`; its bytes go to `out`.
@@ -207,7 +232,7 @@ pub fn read_file(text: &[u8], at: usize, out: &mut [u8]) -> Request
     requires { ⌜ at < length (now text) ⌝ }
     ensures { λ r. ⌜ (at < r .next) × (r .next ≤ length (now (text .entry))) × Counts (r .count) (now (out .exit)) ⌝ }
 {
-    let start = past_word(text, at);
+    let start = past_spaces(text, find(text, at, b' '));
     let e = read_entries(text, start, true, out);
     let end = past_spaces(text, e.next);
     let good = ends(text, end);
@@ -218,19 +243,4 @@ pub fn read_file(text: &[u8], at: usize, out: &mut [u8]) -> Request
         count: e.value,
         next: past_line(text, at),
     }
-}
-
-// The first byte after a word and the spaces behind it.
-fn past_word(text: &[u8], at: usize) -> usize
-    requires { ⌜ at ≤ length (now text) ⌝ }
-    ensures { λ r. ⌜ (at ≤ r) × (r ≤ length (now (text .entry))) ⌝ }
-{
-    let mut i = at;
-    while i < text.len() {
-        if text[i] == 32 {
-            return past_spaces(text, i);
-        }
-        i += 1;
-    }
-    i
 }

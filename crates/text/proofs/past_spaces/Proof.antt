@@ -1,39 +1,17 @@
--- `text::past_spaces` meets its contract. The place stays within the text; the measure is what is left of it.
--- Assumes nothing.
-use Prim.Native.Nat.{ℕ, _+_, _*_, _-_, _^_, _≤_, _<_}
-use mathlib.Core.Path.{_≡_}
+-- `text::past_spaces` meets its contract. The invariant: every byte so far is a space. The measure is what is left of the text.
+use Prim.Native.Nat.{_-_}
 use native.Mathlib.Omega.{arith}
 use borrow.Author.Needs.{needs}
 use lib.ListN.{length}
+use Rattle.text.proofs.Places.{Spaces, spaces-start, spaces-stop, spaces-more, spaces-end}
 use Rattle.text.proofs.past_spaces.Statement.{statement}
 use Rattle.text.proofs.past_spaces.Tie as tie
 
 abbrev Inv-loop : tie.InvT-loop
-Inv-loop text at i₀ i = (at ≤ i) × (i ≤ length text)
+Inv-loop text at i₀ i = Spaces text at i
 
 abbrev μ-loop : tie.MeasureT-loop
 μ-loop text at i₀ i = length text - i
-
-loop-holds : tie.Need-loop-holds Inv-loop μ-loop
-loop-holds c = search needs
-
-shared-slice-read-if1 : tie.Need-shared-slice-read-if1 Inv-loop μ-loop
-shared-slice-read-if1 c = search needs
-
-returns : tie.Need-returns Inv-loop μ-loop
-returns c = search needs
-
-add-i : tie.Need-add-i Inv-loop μ-loop
-add-i c = search needs
-
-loop-less : tie.Need-loop-less Inv-loop μ-loop
-loop-less c = search needs
-
-loop-again : tie.Need-loop-again Inv-loop μ-loop
-loop-again c = search needs
-
-returns-2 : tie.Need-returns-2 Inv-loop μ-loop
-returns-2 c = search needs
 
 pub past-spaces-spec : {M : Type 1} → statement M
 past-spaces-spec =
@@ -41,10 +19,10 @@ past-spaces-spec =
     (tie.spec
     Inv-loop
     μ-loop
-    loop-holds
-    shared-slice-read-if1
-    returns
-    add-i
-    loop-less
-    loop-again
-    returns-2)
+    (λ c. search spaces-start)
+    (λ c. search needs)
+    (λ c. search (arith, spaces-stop))
+    (λ c. search needs)
+    (λ c. search needs)
+    (λ c. search spaces-more)
+    (λ c. search (arith, spaces-end)))

@@ -1,0 +1,4 @@
+-- Laws of places and numbers in text.
+pub mod Places
+pub mod Digits
+pub mod Entries

@@ -1,0 +1,102 @@
+-- Laws of places in text: of the loops that pass spaces, and that find a byte.
+-- Assumes nothing.
+use mathlib.Core.Path.{_≡_, refl, sym, ap, _∙_}
+use mathlib.Core.List.{List}
+use Prim.Native.Nat.{ℕ, zero, suc, _+_, _≤_, _<_}
+use native.Mathlib.Numerals.{add-one}
+use native.Mathlib.Omega.{arith}
+use lib.ListN.{length, getD, drop, drop-of-length-le}
+use lib.Seq.{drop-cons}
+use mathlib.Core.Bool.{true}
+use lib.Dec.{eqb}
+use borrow.Author.Tests.{lt-ltb, le-ltb, eq-eqb, ne-eqb}
+use Rattle.text.specs.Lines.{leading, before, pastSpaces, placeOf, pastLine, endsAt}
+
+module _ (text : List ℕ) (i b : ℕ) where
+  leading-one : i < length text → getD text i 0 ≡ b → leading b (drop i text) ≡ suc (leading b (drop (suc i) text))
+  unfolding leading
+  leading-one h e = rw (drop-cons text i 0 h) (rw (eq-eqb (getD text i 0) b e) refl)
+
+  leading-none : i < length text → (getD text i 0 ≡ b → ⊥) → leading b (drop i text) ≡ 0
+  unfolding leading
+  leading-none h n = rw (drop-cons text i 0 h) (rw (ne-eqb (getD text i 0) b n) refl)
+
+  leading-end : length text ≤ i → leading b (drop i text) ≡ 0
+  unfolding leading
+  leading-end h = rw (drop-of-length-le text h) refl
+
+  before-one : i < length text → (getD text i 0 ≡ b → ⊥) → before b (drop i text) ≡ suc (before b (drop (suc i) text))
+  unfolding before
+  before-one h n = rw (drop-cons text i 0 h) (rw (ne-eqb (getD text i 0) b n) refl)
+
+  before-none : i < length text → getD text i 0 ≡ b → before b (drop i text) ≡ 0
+  unfolding before
+  before-none h e = rw (drop-cons text i 0 h) (rw (eq-eqb (getD text i 0) b e) refl)
+
+  before-end : length text ≤ i → before b (drop i text) ≡ 0
+  unfolding before
+  before-end h = rw (drop-of-length-le text h) refl
+
+-- ---- `past_spaces`: every byte from `at` to i is a space
+
+pub record Spaces (text : List ℕ) (at i : ℕ) : Type 0 where
+  pub from : at ≤ i
+  pub within : i ≤ length text
+  pub same : pastSpaces text i ≡ pastSpaces text at
+
+pub spaces-start : (text : List ℕ) (at : ℕ) → at ≤ length text → Spaces text at at
+spaces-start text at h = record { from = omega arith; within = h; same = refl }
+
+module _ (text : List ℕ) (at i : ℕ) (p : Spaces text at i) where
+  pub spaces-stop : i < length text → (getD text i 0 ≡ 32 → ⊥) → i ≡ pastSpaces text at
+  spaces-stop h n = let e = leading-none text i 32 h n in let s = p .same in omega arith
+
+  pub spaces-more : i < length text → getD text i 0 ≡ 32 → Spaces text at (i + 1)
+  spaces-more h e =
+      let one : leading 32 (drop i text) ≡ suc (leading 32 (drop (i + 1) text)) = rw (add-one i) (leading-one text i 32 h e) in
+      record { from = omega (arith, p .from); within = omega arith; same = omega (arith, one, p .same) }
+
+  pub spaces-end : length text ≤ i → i ≡ pastSpaces text at
+  spaces-end h = let e = leading-end text i 32 h in let s = p .same in omega arith
+
+-- ---- `find`: no byte from `at` to i is b
+
+pub record Without (text : List ℕ) (at b i : ℕ) : Type 0 where
+  pub from : at ≤ i
+  pub within : i ≤ length text
+  pub same : placeOf text i b ≡ placeOf text at b
+
+pub without-start : (text : List ℕ) (at b : ℕ) → at ≤ length text → Without text at b at
+without-start text at b h = record { from = omega arith; within = h; same = refl }
+
+module _ (text : List ℕ) (at b i : ℕ) (p : Without text at b i) where
+  pub without-stop : i < length text → getD text i 0 ≡ b → i ≡ placeOf text at b
+  without-stop h n = let e = before-none text i b h n in let s = p .same in omega arith
+
+  pub without-more : i < length text → (getD text i 0 ≡ b → ⊥) → Without text at b (i + 1)
+  without-more h n =
+      let one : before b (drop i text) ≡ suc (before b (drop (i + 1) text)) = rw (add-one i) (before-one text i b h n) in
+      record { from = omega (arith, p .from); within = omega arith; same = omega (arith, one, p .same) }
+
+  pub without-end : length text ≤ i → i ≡ placeOf text at b
+  without-end h = let e = before-end text i b h in let s = p .same in omega arith
+
+-- ---- `past_line`, `ends`
+
+module _ (text : List ℕ) (at i : ℕ) (e : i ≡ placeOf text at 10) where
+  pub line-more : i < length text → i + 1 ≡ pastLine text at
+  unfolding pastLine
+  line-more h = rw (sym e) (rw (lt-ltb i (length text) h) refl)
+
+  pub line-last : length text ≤ i → i ≡ pastLine text at
+  unfolding pastLine
+  line-last h = rw (sym e) (rw (le-ltb i (length text) h) refl)
+
+module _ (text : List ℕ) (at : ℕ) where
+  pub ends-read : at < length text → eqb (getD text at 0) 10 ≡ endsAt text at
+  unfolding endsAt
+  ends-read h = rw (lt-ltb at (length text) h) refl
+
+  pub ends-last : length text ≤ at → true ≡ endsAt text at
+  unfolding endsAt
+  ends-last h = rw (le-ltb at (length text) h) refl

@@ -1,0 +1,2 @@
+-- Requests in text.
+pub mod Lines

@@ -1,0 +1,100 @@
+-- What the functions that read text answer: a text is a list of bytes, a place one of its numbers. The programs cite this, no promise does.
+use Prim.Native.Nat.{ℕ, zero, suc, _+_, _*_, _-_}
+use mathlib.Core.Bool.{Bool, true, cond, _&&_, not}
+use mathlib.Core.List.{List, [], _∷_, _++_}
+use lib.ListN.{length, getD, drop}
+use lib.Dec.{eqb, leb, ltb}
+use Rattle.text.specs.declared.Number.{Number}
+use Rattle.text.specs.declared.Request.{Request}
+
+-- ---- Places
+
+-- how many bytes a text begins with that are b
+unfoldable pub leading : ℕ → List ℕ → ℕ
+leading b [] = 0
+leading b (x ∷ l) = cond (eqb x b) (suc (leading b l)) 0
+
+-- how many bytes it has before the first b
+unfoldable pub before : ℕ → List ℕ → ℕ
+before b [] = 0
+before b (x ∷ l) = cond (eqb x b) 0 (suc (before b l))
+
+-- the first place from `at` on that is no space
+abbrev pub pastSpaces : List ℕ → ℕ → ℕ
+pastSpaces text at = at + leading 32 (drop at text)
+
+-- the first place from `at` on that has b, or the text's length
+abbrev pub placeOf : List ℕ → ℕ → ℕ → ℕ
+placeOf text at b = at + before b (drop at text)
+
+-- the place after the line that `at` stands in
+unfoldable pub pastLine : List ℕ → ℕ → ℕ
+pastLine text at = cond (ltb (placeOf text at 10) (length text)) (placeOf text at 10 + 1) (placeOf text at 10)
+
+-- whether the line ends at a place
+unfoldable pub endsAt : List ℕ → ℕ → Bool
+endsAt text at = cond (ltb at (length text)) (eqb (getD text at 0) 10) true
+
+-- ---- Numbers
+
+-- the value of a hexadecimal digit, or 16
+unfoldable pub digitOf : ℕ → ℕ
+digitOf b =
+    cond (leb 48 b && leb b 57) (b - 48)
+    (cond (leb 65 b && leb b 70) (b - 55)
+    (cond (leb 97 b && leb b 102) (b - 87) 16))
+
+-- a number with one digit more, at most 999
+unfoldable pub withDigit : ℕ → ℕ → ℕ
+withDigit v d = cond (ltb 999 (10 * v + d)) 999 (10 * v + d)
+
+-- the number v with the decimal digits that a text begins with
+unfoldable pub numberFrom : ℕ → List ℕ → ℕ
+numberFrom v [] = v
+numberFrom v (x ∷ l) = cond (leb 10 (digitOf x)) v (numberFrom (withDigit v (digitOf x)) l)
+
+-- how many these are
+unfoldable pub decimals : List ℕ → ℕ
+decimals [] = 0
+decimals (x ∷ l) = cond (leb 10 (digitOf x)) 0 (suc (decimals l))
+
+-- the number at a place, and the place after it
+abbrev pub numberAt : List ℕ → ℕ → Number
+numberAt text at = record { value = numberFrom 0 (drop at text); next = at + decimals (drop at text) }
+
+-- ---- Entries of a table or of a file, of one digit, or of two where they are wide
+
+-- the entry at a place, or 256
+unfoldable pub entryAt : List ℕ → ℕ → Bool → ℕ
+entryAt text at wide =
+    cond (leb 16 (digitOf (getD text at 0))) 256
+    (cond (not wide) (digitOf (getD text at 0))
+    (cond (leb (length text) (at + 1)) 256
+    (cond (leb 16 (digitOf (getD text (at + 1) 0))) 256
+    (16 * digitOf (getD text at 0) + digitOf (getD text (at + 1) 0)))))
+
+-- the place after it
+unfoldable pub pastEntry : List ℕ → ℕ → Bool → ℕ
+pastEntry text at wide = cond (wide && leb (at + 2) (length text)) (at + 2) (at + 1)
+
+-- whether there is one
+unfoldable pub isEntry : List ℕ → ℕ → Bool → Bool
+isEntry text at wide = ltb at (length text) && ltb (entryAt text at wide) 256
+
+-- the entries from a place on, up to what is none, at most n
+unfoldable pub entriesFrom : List ℕ → Bool → ℕ → ℕ → List ℕ
+entriesFrom text wide zero at = []
+entriesFrom text wide (suc n) at = cond (isEntry text at wide) (entryAt text at wide ∷ entriesFrom text wide n (pastEntry text at wide)) []
+
+-- the place after them
+unfoldable pub pastEntries : List ℕ → Bool → ℕ → ℕ → ℕ
+pastEntries text wide zero at = at
+pastEntries text wide (suc n) at = cond (isEntry text at wide) (pastEntries text wide n (pastEntry text at wide)) at
+
+-- how many there are, at most n, and the place after them
+unfoldable pub countAt : List ℕ → Bool → ℕ → ℕ → Number
+countAt text wide n at = record { value = length (entriesFrom text wide n at); next = pastEntries text wide n at }
+
+-- what they leave in an output
+unfoldable pub entriesOver : List ℕ → Bool → ℕ → List ℕ → List ℕ
+entriesOver text wide at out = entriesFrom text wide (length out) at ++ drop (length (entriesFrom text wide (length out) at)) out
