@@ -110,6 +110,7 @@ as-number a b c d p q = rw p (rw q refl)
 module _ (text : List ℕ) (at i v : ℕ) (p : Counted text at i v) where
   module _ (h : i < length text) (d : ℕ) (e : d ≡ digitOf (getD text i 0)) where
     pub number-stop : 10 ≤ d → _≡_ {A = Number} (record { value = v; next = i }) (numberAt text at)
+    unfolding numberAt
     number-stop n =
         as-number v i _ _ (sym (number-none text i v d e h n) ∙ p .number) (let z = digits-none text i v d e h n in let q = p .place in omega arith)
 
@@ -126,4 +127,5 @@ module _ (text : List ℕ) (at i v : ℕ) (p : Counted text at i v) where
         }
 
   pub number-end : length text ≤ i → _≡_ {A = Number} (record { value = v; next = i }) (numberAt text at)
+  unfolding numberAt
   number-end h = as-number v i _ _ (sym (number-last text i v h) ∙ p .number) (let z = digits-end text i h in let q = p .place in omega arith)

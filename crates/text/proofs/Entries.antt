@@ -184,8 +184,8 @@ module _ (text : List ℕ) (wide : Bool) (at : ℕ) (out₀ out : List ℕ) (i n
         let front : length (take n R) ≡ n = length-take-le n R (t .count) in
         let there : n < length out₀ = omega (arith, r, t .size) in
         let put : set out n e ≡ take n R ++ e ∷ drop (suc n) out₀ =
-            ap (λ (l : List ℕ). set l n e) (t .written ∙ ap (λ (l : List ℕ). take n R ++ l) (drop-cons out₀ n 0 there))
-            ∙ set-at (take n R) (getD out₀ n 0) (drop (suc n) out₀) e n front in
+        ap (λ (l : List ℕ). set l n e) (t .written ∙ ap (λ (l : List ℕ). take n R ++ l) (drop-cons out₀ n 0 there))
+        ∙ set-at (take n R) (getD out₀ n 0) (drop (suc n) out₀) e n front in
         let one : take (suc n) R ≡ take n R ++ (e ∷ []) = take-suc R n 0 inside ∙ ap (λ (x : ℕ). take n R ++ (x ∷ [])) head in
         record {
           from = omega (arith, t .from, up);

@@ -49,14 +49,17 @@ spaces-start text at h = record { from = omega arith; within = h; same = refl }
 
 module _ (text : List ℕ) (at i : ℕ) (p : Spaces text at i) where
   pub spaces-stop : i < length text → (getD text i 0 ≡ 32 → ⊥) → i ≡ pastSpaces text at
+  unfolding pastSpaces
   spaces-stop h n = let e = leading-none text i 32 h n in let s = p .same in omega arith
 
   pub spaces-more : i < length text → getD text i 0 ≡ 32 → Spaces text at (i + 1)
+  unfolding pastSpaces
   spaces-more h e =
       let one : leading 32 (drop i text) ≡ suc (leading 32 (drop (i + 1) text)) = rw (add-one i) (leading-one text i 32 h e) in
       record { from = omega (arith, p .from); within = omega arith; same = omega (arith, one, p .same) }
 
   pub spaces-end : length text ≤ i → i ≡ pastSpaces text at
+  unfolding pastSpaces
   spaces-end h = let e = leading-end text i 32 h in let s = p .same in omega arith
 
 -- ---- `find`: no byte from `at` to i is b
@@ -71,14 +74,17 @@ without-start text at b h = record { from = omega arith; within = h; same = refl
 
 module _ (text : List ℕ) (at b i : ℕ) (p : Without text at b i) where
   pub without-stop : i < length text → getD text i 0 ≡ b → i ≡ placeOf text at b
+  unfolding placeOf
   without-stop h n = let e = before-none text i b h n in let s = p .same in omega arith
 
   pub without-more : i < length text → (getD text i 0 ≡ b → ⊥) → Without text at b (i + 1)
+  unfolding placeOf
   without-more h n =
       let one : before b (drop i text) ≡ suc (before b (drop (i + 1) text)) = rw (add-one i) (before-one text i b h n) in
       record { from = omega (arith, p .from); within = omega arith; same = omega (arith, one, p .same) }
 
   pub without-end : length text ≤ i → i ≡ placeOf text at b
+  unfolding placeOf
   without-end h = let e = before-end text i b h in let s = p .same in omega arith
 
 -- ---- `past_line`, `ends`

@@ -1,4 +1,5 @@
--- What the functions that read text answer: a text is a list of bytes, a place one of its numbers. The programs cite this, no promise does.
+-- What the functions that read text answer. A text is a list of bytes; a place is the number of one of them, or the length. No promise rests on this: it is
+-- for the programs.
 use Prim.Native.Nat.{ℕ, zero, suc, _+_, _*_, _-_}
 use mathlib.Core.Bool.{Bool, true, cond, _&&_, not}
 use mathlib.Core.List.{List, [], _∷_, _++_}
@@ -20,11 +21,11 @@ before b [] = 0
 before b (x ∷ l) = cond (eqb x b) 0 (suc (before b l))
 
 -- the first place from `at` on that is no space
-abbrev pub pastSpaces : List ℕ → ℕ → ℕ
+unfoldable pub pastSpaces : List ℕ → ℕ → ℕ
 pastSpaces text at = at + leading 32 (drop at text)
 
 -- the first place from `at` on that has b, or the text's length
-abbrev pub placeOf : List ℕ → ℕ → ℕ → ℕ
+unfoldable pub placeOf : List ℕ → ℕ → ℕ → ℕ
 placeOf text at b = at + before b (drop at text)
 
 -- the place after the line that `at` stands in
@@ -59,7 +60,7 @@ decimals [] = 0
 decimals (x ∷ l) = cond (leb 10 (digitOf x)) 0 (suc (decimals l))
 
 -- the number at a place, and the place after it
-abbrev pub numberAt : List ℕ → ℕ → Number
+unfoldable pub numberAt : List ℕ → ℕ → Number
 numberAt text at = record { value = numberFrom 0 (drop at text); next = at + decimals (drop at text) }
 
 -- ---- Entries of a table or of a file, of one digit, or of two where they are wide
@@ -98,3 +99,44 @@ countAt text wide n at = record { value = length (entriesFrom text wide n at); n
 -- what they leave in an output
 unfoldable pub entriesOver : List ℕ → Bool → ℕ → List ℕ → List ℕ
 entriesOver text wide at out = entriesFrom text wide (length out) at ++ drop (length (entriesFrom text wide (length out) at)) out
+
+-- ---- Lines
+
+-- the first number of a line `m s TABLE`, m, with the place after it
+abbrev pub widthAt : List ℕ → ℕ → Number
+widthAt text at = numberAt text (pastSpaces text at)
+
+-- the second, s
+abbrev pub sharesAt : List ℕ → ℕ → Number
+sharesAt text at = numberAt text (pastSpaces text (widthAt text at .next))
+
+-- where its table starts, and whether an entry has two digits
+abbrev pub tableAt : List ℕ → ℕ → ℕ
+tableAt text at = pastSpaces text (sharesAt text at .next)
+
+abbrev pub wideAt : List ℕ → ℕ → Bool
+wideAt text at = ltb 4 (widthAt text at .value)
+
+-- the request of such a line, with room for n entries
+unfoldable pub requestAt : List ℕ → ℕ → ℕ → Request
+requestAt text at n = record {
+  good = endsAt text (pastSpaces text (countAt text (wideAt text at) n (tableAt text at) .next));
+  m = widthAt text at .value;
+  s = sharesAt text at .value;
+  count = countAt text (wideAt text at) n (tableAt text at) .value;
+  next = pastLine text at;
+}
+
+-- where the bytes of a line `file HEX` start
+abbrev pub bytesAt : List ℕ → ℕ → ℕ
+bytesAt text at = pastSpaces text (placeOf text at 32)
+
+-- the request of such a line, with room for n bytes; its m and s are 0
+unfoldable pub fileAt : List ℕ → ℕ → ℕ → Request
+fileAt text at n = record {
+  good = endsAt text (pastSpaces text (countAt text true n (bytesAt text at) .next));
+  m = 0;
+  s = 0;
+  count = countAt text true n (bytesAt text at) .value;
+  next = pastLine text at;
+}

@@ -5,11 +5,27 @@ mod words;
 pub use words::print_reason;
 ghost use Prim.Native.Nat.{_+_, _*_, _<_, _≤_};
 ghost use mathlib.Core.Path.{_≡_};
+ghost use mathlib.Core.Bool.{true};
 ghost use lib.ListN.{length, getD};
 ghost use lib.Dec.{eqb};
 ghost use Rattle.io.specs.Counts.{Counts};
 ghost use Rattle.text.specs.Lines.{
-    pastSpaces, placeOf, pastLine, endsAt, digitOf, withDigit, numberAt, entryAt, pastEntry, countAt, entriesOver,
+  pastSpaces,
+  placeOf,
+  pastLine,
+  endsAt,
+  digitOf,
+  withDigit,
+  numberAt,
+  entryAt,
+  pastEntry,
+  countAt,
+  entriesOver,
+  wideAt,
+  tableAt,
+  requestAt,
+  bytesAt,
+  fileAt,
 };
 
 // One line. `good` where it is a request; `next` is the first byte after the line.
@@ -22,7 +38,7 @@ pub struct Request {
 }
 
 // A number read from text, and the first byte after it.
-pub struct Number {
+struct Number {
     pub value: usize,
     pub next: usize,
 }
@@ -200,6 +216,8 @@ fn ends(text: &[u8], at: usize) -> bool
 // The request of the line at `at`; its entries go to `table`.
 pub fn read_request(text: &[u8], at: usize, table: &mut [u8]) -> Request
     requires { ⌜ at < length (now text) ⌝ }
+    ensures { λ r. ⌜ r ≡ requestAt (now (text .entry)) at (length (now (table .entry))) ⌝ }
+    ensures { λ _. ⌜ now (table .exit) ≡ entriesOver (now (text .entry)) (wideAt (now (text .entry)) at) (tableAt (now (text .entry)) at) (now (table .entry)) ⌝ }
     ensures { λ r. ⌜ (at < r .next) × (r .next ≤ length (now (text .entry))) × Counts (r .count) (now (table .exit)) ⌝ }
 {
     let from = past_spaces(text, at);
@@ -230,6 +248,8 @@ pub fn letter_at(text: &[u8], at: usize, letter: u8) -> bool
 // The file of the line `file HEX` at `at`; its bytes go to `out`.
 pub fn read_file(text: &[u8], at: usize, out: &mut [u8]) -> Request
     requires { ⌜ at < length (now text) ⌝ }
+    ensures { λ r. ⌜ r ≡ fileAt (now (text .entry)) at (length (now (out .entry))) ⌝ }
+    ensures { λ _. ⌜ now (out .exit) ≡ entriesOver (now (text .entry)) true (bytesAt (now (text .entry)) at) (now (out .entry)) ⌝ }
     ensures { λ r. ⌜ (at < r .next) × (r .next ≤ length (now (text .entry))) × Counts (r .count) (now (out .exit)) ⌝ }
 {
     let start = past_spaces(text, find(text, at, b' '));
