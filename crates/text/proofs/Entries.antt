@@ -1,14 +1,14 @@
 -- Laws of the entries of a table or of a file in text.
 -- Assumes nothing.
 use mathlib.Core.Path.{_≡_, refl, sym, ap, _∙_}
-use mathlib.Core.Bool.{Bool, true, false, not, _&&_}
+use mathlib.Core.Bool.{Bool, true, false, not}
 use mathlib.Core.List.{List, [], _∷_, _++_}
 use Prim.Native.Nat.{ℕ, zero, suc, _+_, _*_, _-_, _≤_, _<_}
 use native.Mathlib.Nat.{sub-zero}
 use native.Mathlib.Numerals.{add-one}
 use native.Mathlib.Omega.{arith}
-use lib.ListN.{length, getD, take, drop, set, length-set, length-drop, length-append}
-use lib.Seq.{drop-cons, take-suc, take-all, take-length, length-take-le, append-snoc, set-at}
+use lib.ListN.{length, getD, take, drop, set, length-set, length-drop}
+use lib.Seq.{drop-cons, take-suc, take-length, length-take-le, append-snoc, set-at}
 use borrow.Author.Tests.{lt-ltb, le-ltb, le-leb, lt-leb, not-true, not-false}
 use Rattle.io.specs.Counts.{Counts}
 use Rattle.text.specs.Lines.{digitOf, entryAt, pastEntry, isEntry, entriesFrom, pastEntries, countAt, entriesOver}

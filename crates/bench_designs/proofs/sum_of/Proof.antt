@@ -1,10 +1,7 @@
 -- `bench_designs::sum_of` ends, within the tally.
 -- Assumes nothing.
-use Prim.Native.Nat.{ℕ, _+_, _*_, _-_, _^_, _≤_, _<_}
-use mathlib.Core.Path.{_≡_}
-use native.Mathlib.Omega.{arith}
+use Prim.Native.Nat.{_-_, _≤_}
 use borrow.Author.Needs.{needs}
-use lib.ListN.{length}
 use Rattle.bench_designs.proofs.sum_of.Statement.{statement}
 use Rattle.bench_designs.proofs.sum_of.Tie as tie
 

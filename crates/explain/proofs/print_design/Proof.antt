@@ -1,10 +1,7 @@
 -- `explain::print_design` ends, and asks only for stages that the design has.
 -- Assumes nothing.
-use Prim.Native.Nat.{ℕ, _+_, _*_, _-_, _^_, _≤_, _<_}
-use mathlib.Core.Path.{_≡_}
-use native.Mathlib.Omega.{arith}
+use Prim.Native.Nat.{_-_, _≤_}
 use borrow.Author.Needs.{needs}
-use lib.ListN.{length}
 use Rattle.explain.proofs.print_design.Statement.{statement}
 use Rattle.explain.proofs.print_design.Tie as tie
 

@@ -1,10 +1,7 @@
 -- `explain::print_formula` ends, and asks only for terms that the list has.
 -- Assumes nothing.
-use Prim.Native.Nat.{ℕ, _+_, _*_, _-_, _^_, _≤_, _<_}
-use mathlib.Core.Path.{_≡_}
-use native.Mathlib.Omega.{arith}
+use Prim.Native.Nat.{_-_, _≤_}
 use borrow.Author.Needs.{needs}
-use lib.ListN.{length}
 use Rattle.explain.proofs.print_formula.Statement.{statement}
 use Rattle.explain.proofs.print_formula.Tie as tie
 
