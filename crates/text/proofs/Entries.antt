@@ -60,8 +60,8 @@ module _ (text : List ℕ) (at : ℕ) (wide : Bool) where
 -- ---- `read_entries`
 
 -- the entries that are due from `at` on
-abbrev due : List ℕ → Bool → ℕ → List ℕ → List ℕ
-due text wide at out₀ = entriesFrom text wide (length out₀) at
+abbrev dueEntries : List ℕ → Bool → ℕ → List ℕ → List ℕ
+dueEntries text wide at out₀ = entriesFrom text wide (length out₀) at
 
 -- of them n were read, from `at` to i, and written
 pub record Taken (text : List ℕ) (wide : Bool) (at : ℕ) (out₀ out : List ℕ) (i n : ℕ) : Type 0 where
@@ -69,10 +69,10 @@ pub record Taken (text : List ℕ) (wide : Bool) (at : ℕ) (out₀ out : List �
   pub within : i ≤ length text
   pub room : n ≤ length out₀
   pub size : length out ≡ length out₀
-  pub count : n ≤ length (due text wide at out₀)
-  pub left : drop n (due text wide at out₀) ≡ entriesFrom text wide (length out₀ - n) i
+  pub count : n ≤ length (dueEntries text wide at out₀)
+  pub left : drop n (dueEntries text wide at out₀) ≡ entriesFrom text wide (length out₀ - n) i
   pub next : pastEntries text wide (length out₀ - n) i ≡ pastEntries text wide (length out₀) at
-  pub written : out ≡ take n (due text wide at out₀) ++ drop n out₀
+  pub written : out ≡ take n (dueEntries text wide at out₀) ++ drop n out₀
 
 -- these are all
 pub record AllTaken (text : List ℕ) (wide : Bool) (at : ℕ) (out₀ out : List ℕ) (i n : ℕ) : Type 0 where
@@ -145,7 +145,7 @@ module _ (text : List ℕ) (wide : Bool) (at : ℕ) (out₀ out : List ℕ) (i n
   all : entriesFrom text wide (length out₀ - n) i ≡ [] → pastEntries text wide (length out₀ - n) i ≡ i → AllTaken text wide at out₀ out i n
   unfolding countAt entriesOver
   all none past =
-      let R = due text wide at out₀ in
+      let R = dueEntries text wide at out₀ in
       let short : length R - n ≡ 0 = sym (length-drop n R) ∙ ap length (t .left ∙ none) in
       let len : n ≡ length R = omega (arith, short, t .count) in
       let fits : n ≤ length out = omega (arith, t .size, t .room) in
@@ -172,7 +172,7 @@ module _ (text : List ℕ) (wide : Bool) (at : ℕ) (out₀ out : List ℕ) (i n
 
     pub taken-more : n < length out → e < 256 → (j : ℕ) → j ≡ pastEntry text i wide → i < j → j ≤ length text → Taken text wide at out₀ (set out n e) j (n + 1)
     taken-more r s j ej up within =
-        let R = due text wide at out₀ in
+        let R = dueEntries text wide at out₀ in
         let k = length out₀ - (n + 1) in
         let less : length out₀ - n ≡ suc k = omega (arith, r, t .size) in
         let here : drop n R ≡ e ∷ entriesFrom text wide k j = t .left ∙ ap (λ (x : ℕ). entriesFrom text wide x i) less ∙ one-left text wide i e ee h s j ej k in

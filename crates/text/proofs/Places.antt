@@ -10,7 +10,7 @@ use lib.Seq.{drop-cons}
 use mathlib.Core.Bool.{true}
 use lib.Dec.{eqb}
 use borrow.Author.Tests.{lt-ltb, le-ltb, eq-eqb, ne-eqb}
-use Rattle.text.specs.Lines.{leading, before, pastSpaces, placeOf, pastLine, endsAt}
+use Rattle.text.specs.Lines.{leading, upTo, pastSpaces, placeWith, pastLine, endsAt}
 
 module _ (text : List ℕ) (i b : ℕ) where
   leading-one : i < length text → getD text i 0 ≡ b → leading b (drop i text) ≡ suc (leading b (drop (suc i) text))
@@ -25,17 +25,17 @@ module _ (text : List ℕ) (i b : ℕ) where
   unfolding leading
   leading-end h = rw (drop-of-length-le text h) refl
 
-  before-one : i < length text → (getD text i 0 ≡ b → ⊥) → before b (drop i text) ≡ suc (before b (drop (suc i) text))
-  unfolding before
-  before-one h n = rw (drop-cons text i 0 h) (rw (ne-eqb (getD text i 0) b n) refl)
+  upTo-one : i < length text → (getD text i 0 ≡ b → ⊥) → upTo b (drop i text) ≡ suc (upTo b (drop (suc i) text))
+  unfolding upTo
+  upTo-one h n = rw (drop-cons text i 0 h) (rw (ne-eqb (getD text i 0) b n) refl)
 
-  before-none : i < length text → getD text i 0 ≡ b → before b (drop i text) ≡ 0
-  unfolding before
-  before-none h e = rw (drop-cons text i 0 h) (rw (eq-eqb (getD text i 0) b e) refl)
+  upTo-none : i < length text → getD text i 0 ≡ b → upTo b (drop i text) ≡ 0
+  unfolding upTo
+  upTo-none h e = rw (drop-cons text i 0 h) (rw (eq-eqb (getD text i 0) b e) refl)
 
-  before-end : length text ≤ i → before b (drop i text) ≡ 0
-  unfolding before
-  before-end h = rw (drop-of-length-le text h) refl
+  upTo-end : length text ≤ i → upTo b (drop i text) ≡ 0
+  unfolding upTo
+  upTo-end h = rw (drop-of-length-le text h) refl
 
 -- ---- `past_spaces`: every byte from `at` to i is a space
 
@@ -67,29 +67,29 @@ module _ (text : List ℕ) (at i : ℕ) (p : Spaces text at i) where
 pub record Without (text : List ℕ) (at b i : ℕ) : Type 0 where
   pub from : at ≤ i
   pub within : i ≤ length text
-  pub same : placeOf text i b ≡ placeOf text at b
+  pub same : placeWith text i b ≡ placeWith text at b
 
 pub without-start : (text : List ℕ) (at b : ℕ) → at ≤ length text → Without text at b at
 without-start text at b h = record { from = omega arith; within = h; same = refl }
 
 module _ (text : List ℕ) (at b i : ℕ) (p : Without text at b i) where
-  pub without-stop : i < length text → getD text i 0 ≡ b → i ≡ placeOf text at b
-  unfolding placeOf
-  without-stop h n = let e = before-none text i b h n in let s = p .same in omega arith
+  pub without-stop : i < length text → getD text i 0 ≡ b → i ≡ placeWith text at b
+  unfolding placeWith
+  without-stop h n = let e = upTo-none text i b h n in let s = p .same in omega arith
 
   pub without-more : i < length text → (getD text i 0 ≡ b → ⊥) → Without text at b (i + 1)
-  unfolding placeOf
+  unfolding placeWith
   without-more h n =
-      let one : before b (drop i text) ≡ suc (before b (drop (i + 1) text)) = rw (add-one i) (before-one text i b h n) in
+      let one : upTo b (drop i text) ≡ suc (upTo b (drop (i + 1) text)) = rw (add-one i) (upTo-one text i b h n) in
       record { from = omega (arith, p .from); within = omega arith; same = omega (arith, one, p .same) }
 
-  pub without-end : length text ≤ i → i ≡ placeOf text at b
-  unfolding placeOf
-  without-end h = let e = before-end text i b h in let s = p .same in omega arith
+  pub without-end : length text ≤ i → i ≡ placeWith text at b
+  unfolding placeWith
+  without-end h = let e = upTo-end text i b h in let s = p .same in omega arith
 
 -- ---- `past_line`, `ends`
 
-module _ (text : List ℕ) (at i : ℕ) (e : i ≡ placeOf text at 10) where
+module _ (text : List ℕ) (at i : ℕ) (e : i ≡ placeWith text at 10) where
   pub line-more : i < length text → i + 1 ≡ pastLine text at
   unfolding pastLine
   line-more h = rw (sym e) (rw (lt-ltb i (length text) h) refl)

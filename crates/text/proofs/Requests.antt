@@ -6,8 +6,8 @@ use mathlib.Core.List.{List}
 use Prim.Native.Nat.{ℕ}
 use lib.ListN.{length}
 use lib.Dec.{ltb}
-use Rattle.text.specs.Lines.{pastSpaces, placeOf, pastLine, endsAt, numberAt, countAt, entriesOver}
-use Rattle.text.specs.Lines.{widthAt, sharesAt, tableAt, wideAt, requestAt, bytesAt, fileAt}
+use Rattle.text.specs.Lines.{pastSpaces, placeWith, pastLine, endsAt, numberAt, countAt, entriesOver}
+use Rattle.text.specs.Lines.{widthAt, sharesAt, tableStart, wideAt, requestAt, bytesStart, fileAt}
 use Rattle.text.specs.declared.Number.{Number}
 use Rattle.text.specs.declared.Request.{Request}
 
@@ -24,14 +24,14 @@ module _ (text : List ℕ) (at : ℕ) (table : List ℕ) where
       shares = es ∙ ap (numberAt text) (ei ∙ ap (λ (x : Number). pastSpaces text (x .next)) width)
 
       module _ (start : ℕ) (et : start ≡ pastSpaces text (s .next)) where
-        begins : start ≡ tableAt text at
+        begins : start ≡ tableStart text at
         begins = et ∙ ap (λ (x : Number). pastSpaces text (x .next)) shares
 
-        pub request-table : (out : List ℕ) → out ≡ entriesOver text (ltb 4 (m .value)) start table → out ≡ entriesOver text (wideAt text at) (tableAt text at) table
+        pub request-table : (out : List ℕ) → out ≡ entriesOver text (ltb 4 (m .value)) start table → out ≡ entriesOver text (wideAt text at) (tableStart text at) table
         request-table out e = e ∙ ap₂ (λ (w : Bool) (x : ℕ). entriesOver text w x table) wide begins
 
         module _ (e : Number) (ee : e ≡ countAt text (ltb 4 (m .value)) (length table) start) (end : ℕ) (en : end ≡ pastSpaces text (e .next)) where
-          count : e ≡ countAt text (wideAt text at) (length table) (tableAt text at)
+          count : e ≡ countAt text (wideAt text at) (length table) (tableStart text at)
           count = ee ∙ ap₂ (λ (w : Bool) (x : ℕ). countAt text w (length table) x) wide begins
 
           pub request-answer : (good : Bool) → good ≡ endsAt text end → (next : ℕ) → next ≡ pastLine text at
@@ -40,15 +40,15 @@ module _ (text : List ℕ) (at : ℕ) (table : List ℕ) where
           request-answer good eg next el =
               rw el (rw eg (rw en (rw count (rw width (rw shares refl)))))
 
-  module _ (word : ℕ) (ew : word ≡ placeOf text at 32) (start : ℕ) (es : start ≡ pastSpaces text word) where
-    bytes : start ≡ bytesAt text at
+  module _ (word : ℕ) (ew : word ≡ placeWith text at 32) (start : ℕ) (es : start ≡ pastSpaces text word) where
+    bytes : start ≡ bytesStart text at
     bytes = es ∙ ap (pastSpaces text) ew
 
-    pub file-bytes : (out : List ℕ) → out ≡ entriesOver text true start table → out ≡ entriesOver text true (bytesAt text at) table
+    pub file-bytes : (out : List ℕ) → out ≡ entriesOver text true start table → out ≡ entriesOver text true (bytesStart text at) table
     file-bytes out e = e ∙ ap (λ (x : ℕ). entriesOver text true x table) bytes
 
     module _ (e : Number) (ee : e ≡ countAt text true (length table) start) (end : ℕ) (en : end ≡ pastSpaces text (e .next)) where
-      file-count : e ≡ countAt text true (length table) (bytesAt text at)
+      file-count : e ≡ countAt text true (length table) (bytesStart text at)
       file-count = ee ∙ ap (λ (x : ℕ). countAt text true (length table) x) bytes
 
       pub file-answer : (good : Bool) → good ≡ endsAt text end → (next : ℕ) → next ≡ pastLine text at

@@ -11,7 +11,7 @@ ghost use lib.Dec.{eqb};
 ghost use Rattle.io.specs.Counts.{Counts};
 ghost use Rattle.text.specs.Lines.{
   pastSpaces,
-  placeOf,
+  placeWith,
   pastLine,
   endsAt,
   digitOf,
@@ -22,9 +22,9 @@ ghost use Rattle.text.specs.Lines.{
   countAt,
   entriesOver,
   wideAt,
-  tableAt,
+  tableStart,
   requestAt,
-  bytesAt,
+  bytesStart,
   fileAt,
 };
 
@@ -87,7 +87,7 @@ fn past_spaces(text: &[u8], at: usize) -> usize
 // The first byte from `at` on that is b, or the text's end.
 fn find(text: &[u8], at: usize, b: u8) -> usize
     requires { ⌜ at ≤ length (now text) ⌝ }
-    ensures { λ r. ⌜ (r ≡ placeOf (now (text .entry)) at b) × (at ≤ r) × (r ≤ length (now (text .entry))) ⌝ }
+    ensures { λ r. ⌜ (r ≡ placeWith (now (text .entry)) at b) × (at ≤ r) × (r ≤ length (now (text .entry))) ⌝ }
 {
     let mut i = at;
     while i < text.len() {
@@ -217,7 +217,7 @@ fn ends(text: &[u8], at: usize) -> bool
 pub fn read_request(text: &[u8], at: usize, table: &mut [u8]) -> Request
     requires { ⌜ at < length (now text) ⌝ }
     ensures { λ r. ⌜ r ≡ requestAt (now (text .entry)) at (length (now (table .entry))) ⌝ }
-    ensures { λ _. ⌜ now (table .exit) ≡ entriesOver (now (text .entry)) (wideAt (now (text .entry)) at) (tableAt (now (text .entry)) at) (now (table .entry)) ⌝ }
+    ensures { λ _. ⌜ now (table .exit) ≡ entriesOver (now (text .entry)) (wideAt (now (text .entry)) at) (tableStart (now (text .entry)) at) (now (table .entry)) ⌝ }
     ensures { λ r. ⌜ (at < r .next) × (r .next ≤ length (now (text .entry))) × Counts (r .count) (now (table .exit)) ⌝ }
 {
     let from = past_spaces(text, at);
@@ -249,7 +249,7 @@ pub fn letter_at(text: &[u8], at: usize, letter: u8) -> bool
 pub fn read_file(text: &[u8], at: usize, out: &mut [u8]) -> Request
     requires { ⌜ at < length (now text) ⌝ }
     ensures { λ r. ⌜ r ≡ fileAt (now (text .entry)) at (length (now (out .entry))) ⌝ }
-    ensures { λ _. ⌜ now (out .exit) ≡ entriesOver (now (text .entry)) true (bytesAt (now (text .entry)) at) (now (out .entry)) ⌝ }
+    ensures { λ _. ⌜ now (out .exit) ≡ entriesOver (now (text .entry)) true (bytesStart (now (text .entry)) at) (now (out .entry)) ⌝ }
     ensures { λ r. ⌜ (at < r .next) × (r .next ≤ length (now (text .entry))) × Counts (r .count) (now (out .exit)) ⌝ }
 {
     let start = past_spaces(text, find(text, at, b' '));

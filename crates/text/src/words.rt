@@ -1,6 +1,6 @@
 // The published numbers in words.
 
-// What a reason means.
+// Writes what a reason means; nothing for a number that is none. No contract can say what is written.
 pub fn print_reason(fd: i32, reason: usize) {
     if reason == 0 {
         io::write_all(fd, b"accepted");
