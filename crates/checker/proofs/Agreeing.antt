@@ -18,7 +18,7 @@ use mir.Syntax.{w8}
 use Rattle.finite.specs.Tests.{all}
 use Rattle.finite.specs.Maps.{repeats}
 use Rattle.finite.proofs.Testing.{all-more, all-fails}
-use Rattle.design.specs.Limits.{greatestWidth, greatestShares, greatestShareBits}
+use Rattle.design.specs.Limits.{greatestWidth, greatestShares, greatestShareBits, greatestRecords}
 use Rattle.design.specs.Design.{stageOf}
 use Rattle.design.specs.Reading.{meaning, numberOf}
 use Rattle.design.specs.Layout.{Describes}
@@ -121,8 +121,8 @@ module _ (f : List ℕ) (l : Layout) (t : ℕ) (h : t < l .head .k) (d : Describ
     stands = stand f (λ i. omega (arith, bytes i)) l d t h first e
 
     -- the length of an array in a struct is known so
-    pub lists-stand : length (map (λ (v : ℕ). v) (l .starts)) ≡ 88 → Standing f (l .starts) first (l .head .m * l .head .s)
-    lists-stand k = (stands .inside, below-field ℕ (l .starts) _ 88 k (stands .known), bits-high f l d)
+    pub lists-stand : length (map (λ (v : ℕ). v) (l .starts)) ≡ greatestRecords → Standing f (l .starts) first (l .head .m * l .head .s)
+    lists-stand k = (stands .inside, below-field ℕ (l .starts) _ greatestRecords k (stands .known), bits-high f l d)
 
     pub stage-agrees : (b : List ℕ) → b ≡ stageOf (meaning f) t .table → (r : Bool)
         → r ≡ agreeing (l .head .m) (l .head .s) (listsOf f (l .starts) first (l .head .m * l .head .s)) b (2 ^ (l .head .m * l .head .s))

@@ -13,9 +13,9 @@ use Rattle.finite.specs.Maps.{repeats}
 use Rattle.finite.proofs.Testing.{pick-true, pick-false, or-left, or-right, or-none}
 use Rattle.anf.specs.Tables.{entry}
 use Rattle.design.specs.Reading.{meaning}
-use Rattle.design.specs.Layout.{Describes, Answers}
+use Rattle.design.specs.Layout.{Describes, layoutOf}
 use Rattle.design.specs.declared.Layout.{Layout}
-use Rattle.design.proofs.Answered.{described, refuses}
+use Rattle.design.proofs.Answered.{described, answers-described, refuses}
 use Rattle.checker.specs.Verdict.{answer, workspaceFor, chainIsBox, firstRepeating, judged, judgedReading, verdict, workspaceAfter, workspaceAfterReading}
 use Rattle.checker.specs.Parts.{judgedChain, workspaceOf}
 use Rattle.checker.specs.Marks.{zeroed, marksOf}
@@ -25,27 +25,27 @@ use Rattle.checker.proofs.Answering.{stagesVerdict}
 
 -- ---- `judge`
 
-module _ (f : List ℕ) (l : Layout) (a : Answers f l) where
+module _ (f : List ℕ) (l : Layout) (a : l ≡ layoutOf f) where
   pub read-well : l .reason ≡ 0 → Describes f l
-  read-well z = a .layout z
+  read-well z = answers-described f l a z
 
   module _ (n : l .reason ≡ 0 → ⊥) where
     pub unread : (k : ℕ) (v : Verdict) → v ≡ answer (l .reason) (l .place) 0 → v ≡ verdict f k
     unfolding verdict judgedReading
-    unread k v e = e ∙ rw (refuses a n)
+    unread k v e = e ∙ rw (refuses f l a n)
 
     pub unread-after : (ws : List ℕ) → ws ≡ workspaceAfter f ws
     unfolding workspaceAfter workspaceAfterReading
-    unread-after ws = rw (refuses a n)
+    unread-after ws = rw (refuses f l a n)
 
   module _ (z : l .reason ≡ 0) where
     pub design-answers : (k : ℕ) (v : Verdict) → v ≡ judged (meaning f) k → v ≡ verdict f k
     unfolding verdict judgedReading
-    design-answers k v e = e ∙ rw (a .layout z .read) refl
+    design-answers k v e = e ∙ rw (answers-described f l a z .read) refl
 
     pub design-after : (ws ws₁ : List ℕ) → ws₁ ≡ workspaceOf (meaning f) ws → ws₁ ≡ workspaceAfter f ws
     unfolding workspaceAfter workspaceAfterReading workspaceOf
-    design-after ws ws₁ e = e ∙ rw (a .layout z .read) refl
+    design-after ws ws₁ e = e ∙ rw (answers-described f l a z .read) refl
 
 -- ---- `judge_design`
 

@@ -6,15 +6,14 @@ use mathlib.Core.Path.{_≡_, refl, sym, ap, _∙_}
 use mathlib.Core.List.{List}
 use mathlib.Core.Bool.{Bool, true, false}
 use native.Mathlib.Omega.{arith}
-use native.Mathlib.Decide.{decLt}
-use lib.ListN.{length, getD, set, length-set}
-use lib.Seq.{getD-set-same, getD-set-other}
+use lib.ListN.{length, set, length-set}
 use mir.Syntax.{w64}
 use mir.Val.{Fits}
-use Rattle.finite.specs.Tests.{pick}
+use Rattle.finite.specs.Tests.{pick, tabulate}
+use Rattle.finite.proofs.Testing.{tabulate-more}
 use Rattle.design.specs.Bytes.{byte, u16At}
-use Rattle.design.specs.Layout.{checked, Limits, Answers}
-use Rattle.design.specs.Limits.{broken}
+use Rattle.design.specs.Layout.{checked, Limits, noStarts, startOf, startsTo, refusedLayout, layoutOf}
+use Rattle.design.specs.Limits.{greatestRecords, broken}
 use Rattle.design.specs.Reading.{lastOf, frame, faultAt, refused, means, reading, walk, place, headOf, meaning}
 use Rattle.design.specs.declared.Head.{Head}
 use Rattle.design.specs.declared.Layout.{Layout}
@@ -22,35 +21,36 @@ use Rattle.design.specs.declared.Checked.{Checked}
 use Rattle.design.specs.declared.Checked.the-variants.{Good, Beyond}
 use Rattle.design.proofs.Walking.{fault-framed, walk-next, walk-stop, walk-over, walk-done, place-next, head-size, head-cut, head-beyond, head-good, head-next}
 
--- a refusal, and a file that reads
-answers-refused : (f : List ℕ) (l : Layout) (r p : ℕ) → reading f ≡ refused r p → l .reason ≡ r → l .place ≡ p → (r ≡ 0 → ⊥) → Answers f l
-answers-refused f l r p e a b n = record { reason = rw e a; place = rw e b; layout = λ z. absurd (n (sym a ∙ z)) }
+-- a refusal
+answers-refused : (f : List ℕ) (l : Layout) (r p : ℕ) → reading f ≡ refused r p → l ≡ refusedLayout r p → l ≡ layoutOf f
+unfolding layoutOf
+answers-refused f l r p e a = rw e a
 
 -- ---- the loop of `walk`: record i of n starts at `at`
 
 pub record Walked (f : List ℕ) (h : Head) (n : ℕ) (starts : List ℕ) (i at : ℕ) : Type 0 where
   pub head : h ≡ headOf f
   pub count : n ≡ lastOf h + 1
-  pub few : n ≤ 88
+  pub few : n ≤ greatestRecords
   pub from : 1 ≤ i
   pub to : i ≤ n
   pub within : at ≤ length f
   pub here : at ≡ place f i
-  pub room : length starts ≡ 88
-  pub passed : (j : ℕ) → j < i → getD starts j 0 ≡ place f j + 4
+  pub room : length starts ≡ greatestRecords
+  pub passed : starts ≡ startsTo f i
   pub rest : reading f ≡ walk f h (n - i) i at
 
-starts-more : (f starts : List ℕ) (i at : ℕ) → i < length starts → at ≡ place f i → ((j : ℕ) → j < i → getD starts j 0 ≡ place f j + 4)
-    → (j : ℕ) → j < i + 1 → getD (set starts i (at + 4)) j 0 ≡ place f j + 4
-starts-more f starts i at l p b j h = go (decLt j i)
-  where
-    go : Dec (j < i) → getD (set starts i (at + 4)) j 0 ≡ place f j + 4
-    go (yes q) = getD-set-other starts i j (at + 4) 0 (omega arith) ∙ b j q
-    go (no q) = let e : j ≡ i = omega arith in rw e (getD-set-same starts i (at + 4) 0 l ∙ ap (λ (x : ℕ). x + 4) p)
+starts-first : (f : List ℕ) → set noStarts 0 4 ≡ startsTo f 1
+unfolding startsTo startOf place tabulate
+starts-first f = refl
+
+starts-more : (f : List ℕ) (i at : ℕ) → i < greatestRecords → at ≡ place f i → set (startsTo f i) i (at + 4) ≡ startsTo f (i + 1)
+unfolding startsTo startOf
+starts-more f i at l p = rw p (tabulate-more i (startOf f) noStarts l)
 
 -- after the head; e is the number of the last record
-pub walked-first : (f : List ℕ) (h : Head) (starts : List ℕ) (e : ℕ) → h ≡ headOf f → e ≡ lastOf h → e < 87 → faultAt f h 0 0 ≡ 0 → length starts ≡ 88
-    → getD starts 0 0 ≡ 4 → Walked f h (e + 1) starts 1 7
+pub walked-first : (f : List ℕ) (h : Head) (starts : List ℕ) (e : ℕ) → h ≡ headOf f → e ≡ lastOf h → e < greatestRecords → faultAt f h 0 0 ≡ 0 → length starts ≡ greatestRecords
+    → starts ≡ set noStarts 0 4 → Walked f h (e + 1) starts 1 7
 unfolding place
 walked-first f h starts e q m k z l s =
     let w = head-next f (rw q at z) in
@@ -63,17 +63,17 @@ walked-first f h starts e q m k z l s =
       within = w .0;
       here = sym (w .1);
       room = l;
-      passed = λ j t. let d : j ≡ 0 = omega arith in rw d s;
+      passed = s ∙ starts-first f;
       rest = rw (m, q) (w .2);
     }
 
 module _ (f : List ℕ) (h : Head) (n : ℕ) (starts : List ℕ) (i at : ℕ) (w : Walked f h n starts i at) where
   -- a record is tested: r is its fault, b the length of its body
   module _ (l : i < n) (r : ℕ) (er : r ≡ faultAt f h i at) where
-    pub walk-stopped : (y : Layout) → y .reason ≡ r → y .place ≡ at → (r ≡ 0 → ⊥) → Answers f y
-    walk-stopped y a b e =
+    pub walk-stopped : (y : Layout) → y ≡ refusedLayout r at → (r ≡ 0 → ⊥) → y ≡ layoutOf f
+    walk-stopped y a e =
         let d : faultAt f h i at ≡ 0 → ⊥ = λ z. e (er ∙ z) in
-        answers-refused f y _ _ (w .rest ∙ walk-stop f h n i at l d) (a ∙ er) b d
+        answers-refused f y _ _ (w .rest ∙ walk-stop f h n i at l d) (a ∙ ap (λ (x : ℕ). refusedLayout x at) er)
 
     pub walked-more : r ≡ 0 → (b : ℕ) → b ≡ u16At f at → Walked f h n (set starts i (at + 4)) (i + 1) (at + 4 + b)
     walked-more z b eb =
@@ -89,24 +89,21 @@ module _ (f : List ℕ) (h : Head) (n : ℕ) (starts : List ℕ) (i at : ℕ) (w
           within = t .rest;
           here = rw (w .here) (sym (place-next f i));
           room = length-set starts i (at + 4) ∙ w .room;
-          passed = starts-more f starts i at (omega (arith, w .few, w .room)) (w .here) (w .passed);
+          passed = ap (λ (x : List ℕ). set x i (at + 4)) (w .passed) ∙ starts-more f i at (omega (arith, w .few)) (w .here);
           rest = w .rest ∙ walk-next f h n i at l e;
         })
 
   -- all records are passed
   module _ (l : n ≤ i) where
-    pub bytes-follow : at < length f → (y : Layout) → y .reason ≡ 7 → y .place ≡ at → Answers f y
-    bytes-follow t y a b = answers-refused f y 7 at (w .rest ∙ walk-over f h n i at l t) a b (λ z. omega arith)
+    pub bytes-follow : at < length f → (y : Layout) → y ≡ refusedLayout 7 at → y ≡ layoutOf f
+    bytes-follow t y a = answers-refused f y 7 at (w .rest ∙ walk-over f h n i at l t) a
 
-    pub walk-reads : length f ≤ at → Answers f (record { reason = 0; place = 0; head = h; starts = starts })
+    pub walk-reads : length f ≤ at → record { reason = 0; place = 0; head = h; starts = starts } ≡ layoutOf f
+    unfolding layoutOf
     walk-reads t =
         let e : reading f ≡ means (meaning f) = w .rest ∙ walk-done f h n i at l t in
-        let s : lastOf h ≡ lastOf (headOf f) = ap lastOf (w .head) in
-        record {
-          reason = rw e refl;
-          place = rw e refl;
-          layout = λ z. record { read = e; head = w .head; starts = λ j k. w .passed j (omega (arith, w .count)) };
-        }
+        let q : i ≡ lastOf (headOf f) + 1 = omega (arith, w .count, w .to, ap lastOf (w .head)) in
+        rw (e, w .head, w .passed, q) refl
 
 module _ (f : List ℕ) (h : Head) (i at r : ℕ) (er : r ≡ faultAt f h i at) (z : r ≡ 0) where
   pub length-there : at + 2 ≤ length f
@@ -121,10 +118,10 @@ module _ (f : List ℕ) (h : Head) (i at r : ℕ) (er : r ≡ faultAt f h i at) 
 -- ---- `read`: r is the fault of the head's frame, v the constructor's answer for its numbers m, s, k
 
 module _ (f : List ℕ) (r : ℕ) (er : r ≡ frame f 0 1 3) where
-  pub head-wrong : (y : Layout) → y .reason ≡ r → y .place ≡ 0 → (r ≡ 0 → ⊥) → Answers f y
-  head-wrong y a b e =
+  pub head-wrong : (y : Layout) → y ≡ refusedLayout r 0 → (r ≡ 0 → ⊥) → y ≡ layoutOf f
+  head-wrong y a e =
       let d : frame f 0 1 3 ≡ 0 → ⊥ = λ z. e (er ∙ z) in
-      answers-refused f y _ _ (head-cut f d) (a ∙ er) b d
+      answers-refused f y _ _ (head-cut f d) (a ∙ ap (λ (x : ℕ). refusedLayout x 0) er)
 
   module _ (z : r ≡ 0) where
     pub head-there : (x : ℕ) → x < 7 → x < length f
@@ -152,5 +149,5 @@ module _ (f : List ℕ) (r : ℕ) (er : r ≡ frame f 0 1 3) where
       read-beyond true g = refl
       read-beyond false g = let w : _≡_ {A = ℕ} 0 1 = cc in absurd (omega arith)
 
-      pub beyond-limits : v ≡ Beyond → (y : Layout) → y .reason ≡ 4 → y .place ≡ 0 → Answers f y
-      beyond-limits g y a b = answers-refused f y 4 0 (head-beyond f (sym er ∙ z) (read-beyond _ (rw (p, q, t) at (sym ev ∙ g)))) a b (λ e. omega arith)
+      pub beyond-limits : v ≡ Beyond → (y : Layout) → y ≡ refusedLayout 4 0 → y ≡ layoutOf f
+      beyond-limits g y a = answers-refused f y 4 0 (head-beyond f (sym er ∙ z) (read-beyond _ (rw (p, q, t) at (sym ev ∙ g)))) a

@@ -9,7 +9,7 @@ use lib.Pow.{pow-mono}
 use borrow.Author.Tests.{lt-ltb, le-ltb, eq-eqb, ne-eqb}
 use mir.Syntax.{w32, w64}
 use mir.Val.{Fits}
-use Rattle.design.specs.Limits.{greatestWidth, leastShares, greatestShares, greatestShareBits, greatestStages, greatestTerms, broken}
+use Rattle.design.specs.Limits.{greatestWidth, leastShares, greatestShares, greatestShareBits, greatestStages, greatestTerms, greatestRecords, broken}
 use Rattle.design.specs.Layout.{checked}
 use Rattle.design.specs.Reading.{lastOf, numberOf, kindDue, sizeDue}
 use Rattle.design.specs.declared.Head.{Head}
@@ -75,7 +75,7 @@ module _ (m s k : ℕ) (l : broken m s k ≡ false) where
   pub last-fits : Fits w64 (2 + k * (1 + m * s))
   last-fits = let b = bounds m s k l in record { fits = omega (arith, records (b .k-high) (b .bits)) }
 
-  pub last-low : 2 + k * (1 + m * s) < 87
+  pub last-low : 2 + k * (1 + m * s) < greatestRecords
   last-low = let b = bounds m s k l in omega (arith, records (b .k-high) (b .bits))
 
   pub width-small : m < 64
@@ -101,7 +101,7 @@ module _ (m s k : ℕ) (l : broken m s k ≡ false) where
     pub number-fits : (x : ℕ) → x ≤ 2 → Fits w64 (x + t * (1 + m * s) + r)
     number-fits x h = let d = low in let e = last-low in record { fits = omega arith }
 
-    pub number-known : 2 + t * (1 + m * s) + r < 88
+    pub number-known : 2 + t * (1 + m * s) + r < greatestRecords
     number-known = let d = low in let e = last-low in omega arith
 
 pub last-is : (h : Head) → 2 + h .k * (1 + h .m * h .s) ≡ lastOf h

@@ -25,8 +25,8 @@ pub product : {m s : ℕ} → m ≤ greatestWidth → s ≤ greatestShares → m
 product p q = mul-le-mul p q
 
 -- k stages of a table and b lists each
-pub records : {k b : ℕ} → k ≤ greatestStages → b ≤ greatestShareBits → k * (1 + b) ≤ 84
-records {k} {b} p q = mul-le-mul {n₁ = k} {m₁ = 1 + b} {n₂ = 4} {m₂ = 21} p (omega arith)
+pub records : {k b : ℕ} → k ≤ greatestStages → b ≤ greatestShareBits → k * (1 + b) ≤ greatestStages * (1 + greatestShareBits)
+records {k} {b} p q = mul-le-mul {n₁ = k} {m₁ = 1 + b} {n₂ = greatestStages} {m₂ = 1 + greatestShareBits} p (omega arith)
 
 pub bounds : (m s k : ℕ) → broken m s k ≡ false → Bounds m s k
 unfolding broken

@@ -13,6 +13,7 @@ use Rattle.design.specs.Reading.{headOf, lastOf, numberOf, place, meanin
 use Rattle.design.specs.Layout.{Describes}
 use Rattle.design.specs.StageLists.{bodyAt, Inside, AllInside, listsOf}
 use Rattle.design.specs.declared.Layout.{Layout}
+use Rattle.design.specs.Limits.{greatestRecords}
 use Rattle.design.proofs.Limits.{records}
 use Rattle.design.proofs.TermBytes.{terms-of-bytes}
 use Rattle.design.proofs.Walking.{place-next}
@@ -66,7 +67,7 @@ module _ (f : List ℕ) (b : Bytes f) (y : Layout) (d : Describes f y) (t : ℕ)
     lists-inside i k = one (from + i) (first + i) (omega arith) (ap (λ (q : ℕ). q + i) e ∙ number-from from i) .0
 
     -- their starts and the next are among those that a layout has room for
-    pub lists-known : first + n < 88
+    pub lists-known : first + n < greatestRecords
     unfolding numberOf
     lists-known =
         let o = described d .bounds in
@@ -89,7 +90,7 @@ module _ (f : List ℕ) (b : Bytes f) (y : Layout) (d : Describes f y) (t : ℕ)
 -- the lists of stage t, the first of them numbered first
 pub record Stand (f : List ℕ) (y : Layout) (t first : ℕ) : Type 0 where
   pub inside : AllInside f (y .starts) first (y .head .m * y .head .s)
-  pub known : first + y .head .m * y .head .s < 88
+  pub known : first + y .head .m * y .head .s < greatestRecords
   pub all : listsOf f (y .starts) first (y .head .m * y .head .s) ≡ stageOf (meaning f) t .lists
 
 pub stand : (f : List ℕ) → Bytes f → (y : Layout) → Describes f y → (t : ℕ) → t < y .head .k → (first : ℕ) → first ≡ numberOf (y .head) t 1 → Stand f y t first

@@ -1,5 +1,5 @@
 -- The limits of the head and of a list.
-use Prim.Native.Nat.{ℕ, _*_}
+use Prim.Native.Nat.{ℕ, _+_, _*_}
 use mathlib.Core.Bool.{Bool, _||_}
 use lib.Dec.{ltb}
 use Rattle.anf.specs.Transform as transform
@@ -22,6 +22,10 @@ greatestStages = 4
 -- the greatest number of terms of a list
 abbrev pub greatestTerms : ℕ
 greatestTerms = 4096
+
+-- the greatest number of records of a file: the head, the box, a table and a list for each share bit in each stage, the end
+abbrev pub greatestRecords : ℕ
+greatestRecords = 3 + greatestStages * (1 + greatestShareBits)
 
 -- whether a head number breaks a limit
 unfoldable pub broken : ℕ → ℕ → ℕ → Bool

@@ -29,6 +29,9 @@ ghost use Rattle.design.specs.Layout.{checked};
 // The greatest number of terms of a list.
 pub const GREATEST_TERMS: usize = 4096;
 
+// The greatest number of records of a file: the head, the box, a table and a list for each share bit in each stage, the end.
+pub const GREATEST_RECORDS: usize = 3 + Head::GREATEST_STAGES * (1 + Head::GREATEST_SHARE_BITS);
+
 // The head's three numbers.
 pub struct Head {
     pub m: usize,
@@ -82,12 +85,11 @@ impl Head {
 }
 
 // What reading finds: the reason and the place of a refusal, or 0 and where each record's body starts.
-// A file has at most 87 records: the head, the box, four stages of a table and 20 lists each, the end.
 pub struct Layout {
     pub reason: usize,
     pub place: usize,
     pub head: Head,
-    pub starts: [usize; 88],
+    pub starts: [usize; GREATEST_RECORDS],
 }
 
 // The answer of what writes a file: the number of a refusal, or 0 and the length of the file.

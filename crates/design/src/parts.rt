@@ -9,6 +9,7 @@ ghost use lib.ListN.{getD};
 ghost use Rattle.anf.specs.Tables.{entry as entryOf};
 ghost use Rattle.design.specs.Bytes.{termBytes};
 ghost use Rattle.design.specs.Design.{stageOf, listOf};
+ghost use Rattle.design.specs.Limits.{greatestRecords};
 ghost use Rattle.design.specs.Reading.{lastOf, numberOf, meaning};
 ghost use Rattle.design.specs.Layout.{Limits, Describes};
 ghost use Rattle.design.specs.StageLists.{bodyAt, Inside};
@@ -16,14 +17,14 @@ ghost use Rattle.design.specs.StageLists.{bodyAt, Inside};
 // The number of a record of stage `t`: its table at `l` 0, its lists from 1 on.
 pub fn number(h: Head, t: usize, l: usize) -> usize
     requires { ⌜ Limits h × (t < h .k) × (l ≤ h .m * h .s) ⌝ }
-    ensures { λ r. ⌜ (r ≡ numberOf h t l) × (r < lastOf h) × (r < 88) ⌝ }
+    ensures { λ r. ⌜ (r ≡ numberOf h t l) × (r < lastOf h) × (r < greatestRecords) ⌝ }
 {
     2 + t * (1 + h.m * h.s) + l
 }
 
 // Where the body of record `i` starts.
 fn start(layout: Layout, i: usize) -> usize
-    requires { ⌜ i < 88 ⌝ }
+    requires { ⌜ i < greatestRecords ⌝ }
     ensures { λ r. ⌜ r ≡ getD (layout .starts) i 0 ⌝ }
 {
     layout.starts[i]

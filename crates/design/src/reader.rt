@@ -1,5 +1,6 @@
 // The tests of each record in the published order, and the walk over all records.
 use super::Checked;
+use super::GREATEST_RECORDS;
 use super::GREATEST_TERMS;
 use super::Head;
 use super::Layout;
@@ -15,8 +16,9 @@ ghost use lib.Dec.{eqb};
 ghost use lib.ListN.{length};
 ghost use Rattle.finite.specs.Tests.{all};
 ghost use Rattle.anf.specs.Terms.{before};
+ghost use Rattle.design.specs.Limits.{greatestRecords};
 ghost use Rattle.design.specs.Reading.{headOf, lastOf, kindDue, sizeDue, lengthDue, frame, entryFits, termFits, faultAt};
-ghost use Rattle.design.specs.Layout.{Limits, Answers};
+ghost use Rattle.design.specs.Layout.{Limits, refusedLayout, layoutOf};
 
 // Whether a record of this kind may have the length `n`.
 fn length_fits(kind: usize, size: usize, n: usize) -> bool
@@ -55,7 +57,7 @@ fn framed(file: &[u8], at: usize, kind: usize, size: usize) -> usize
 // The number of the end record, which is how many come before it.
 fn last(h: Head) -> usize
     requires { ⌜ Limits h ⌝ }
-    ensures { λ r. ⌜ (r ≡ lastOf h) × (r < 87) ⌝ }
+    ensures { λ r. ⌜ (r ≡ lastOf h) × (r < greatestRecords) ⌝ }
 {
     2 + h.k * (1 + h.m * h.s)
 }
@@ -172,24 +174,25 @@ fn fault(file: &[u8], h: Head, i: usize, at: usize) -> usize
     0
 }
 
+// The layout of a file that does not read.
 fn refusal(reason: usize, place: usize) -> Layout
-    ensures { λ r. ⌜ (r .reason ≡ reason) × (r .place ≡ place) ⌝ }
+    ensures { λ r. ⌜ r ≡ refusedLayout reason place ⌝ }
 {
     Layout {
         reason,
         place,
         head: Head { m: 0, s: 0, k: 0 },
-        starts: [0usize; 88],
+        starts: [0usize; GREATEST_RECORDS],
     }
 }
 
 // The records after the head.
 fn walk(file: &[u8], h: Head) -> Layout
     requires { ⌜ Limits h × (h ≡ headOf (now file)) × (faultAt (now file) h 0 0 ≡ 0) ⌝ }
-    ensures { λ r. ⌜ Answers (now (file .entry)) r ⌝ }
+    ensures { λ r. ⌜ r ≡ layoutOf (now (file .entry)) ⌝ }
 {
     let n = last(h) + 1;
-    let mut starts = [0usize; 88];
+    let mut starts = [0usize; GREATEST_RECORDS];
     starts[0] = 4;
     let mut i = 1;
     let mut at = 7;
@@ -215,7 +218,7 @@ fn walk(file: &[u8], h: Head) -> Layout
 
 // Reads a design file.
 pub fn read(file: &[u8]) -> Layout
-    ensures { λ r. ⌜ Answers (now (file .entry)) r ⌝ }
+    ensures { λ r. ⌜ r ≡ layoutOf (now (file .entry)) ⌝ }
 {
     let r = framed(file, 0, 1, 3);
     if r != 0 {

@@ -7,12 +7,12 @@ use native.Mathlib.Nat.{div-le-self}
 use native.Mathlib.Omega.{arith}
 use mir.Syntax.{w64}
 use mir.Val.{Fits}
-use Rattle.design.specs.Layout.{Describes, Answers}
+use Rattle.design.specs.Layout.{Describes, layoutOf}
 use Rattle.design.specs.declared.Layout.{Layout}
-use Rattle.design.proofs.Answered.{described}
+use Rattle.design.proofs.Answered.{described, answers-described}
 
-pub read-well : (f : List ℕ) (y : Layout) → Answers f y → y .reason ≡ 0 → Describes f y
-read-well f y a z = a .layout z
+pub read-well : (f : List ℕ) (y : Layout) → y ≡ layoutOf f → y .reason ≡ 0 → Describes f y
+read-well f y a z = answers-described f y a z
 
 -- the share of a variable
 pub share-low : (i m bits : ℕ) → i < bits → bits ≤ 32 → i / m ≤ 32

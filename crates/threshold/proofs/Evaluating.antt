@@ -16,7 +16,7 @@ use mir.Syntax.{w8, w64}
 use mir.Val.{Fits}
 use Rattle.anf.specs.Terms.{valueAt}
 use Rattle.anf.proofs.Terms.{valueAt-lt}
-use Rattle.design.specs.Limits.{greatestWidth, greatestShareBits}
+use Rattle.design.specs.Limits.{greatestWidth, greatestShareBits, greatestRecords}
 use Rattle.design.specs.Bytes.{terms}
 use Rattle.design.specs.Design.{stageOf}
 use Rattle.design.specs.Reading.{meaning, numberOf}
@@ -139,9 +139,9 @@ module _ (f : List ℕ) (y : Layout) (d : Describes f y) where
       component-inside = lists-inside f (λ i. omega (arith, bytes i)) y d t u (y .head .m * j) (y .head .m) first lists-before e
 
       -- the length of an array in a struct is known so
-      pub component-known : length (map (λ (v : ℕ). v) (y .starts)) ≡ 88 → first + y .head .m < length (y .starts)
+      pub component-known : length (map (λ (v : ℕ). v) (y .starts)) ≡ greatestRecords → first + y .head .m < length (y .starts)
       component-known k =
-          below-field ℕ (y .starts) _ 88 k (lists-known f (λ i. omega (arith, bytes i)) y d t u (y .head .m * j) (y .head .m) first lists-before e)
+          below-field ℕ (y .starts) _ greatestRecords k (lists-known f (λ i. omega (arith, bytes i)) y d t u (y .head .m * j) (y .head .m) first lists-before e)
 
       pub component-found : (r x : ℕ) → r ≡ output (listsOf f (y .starts) first (y .head .m)) x → r ≡ component (y .head .m) (stageOf (meaning f) t .lists) j x
       component-found r x q =

@@ -17,9 +17,9 @@ use Rattle.finite.proofs.Testing.{all-more, all-fails, tabulate-more}
 use Rattle.design.specs.Limits.{greatestWidth, greatestShares, greatestShareBits}
 use Rattle.design.specs.Design.{stageOf}
 use Rattle.design.specs.Reading.{meaning}
-use Rattle.design.specs.Layout.{Describes, Answers}
+use Rattle.design.specs.Layout.{Describes, layoutOf}
 use Rattle.design.specs.declared.Layout.{Layout}
-use Rattle.design.proofs.Answered.{described, refuses}
+use Rattle.design.proofs.Answered.{described, answers-described, refuses}
 use Rattle.design.proofs.Found.{shares-high}
 use Rattle.design.proofs.StageLists.{stages-length, lists-length}
 use Rattle.threshold.specs.Stages.{output, component}
@@ -120,8 +120,8 @@ module _ (f : List ℕ) (y : Layout) (d : Describes f y) where
 
 -- ---- `run`: y is what was read of the file f, b whether the shares fit, v what is answered
 
-pub unread : (f l : List ℕ) (y : Layout) → Answers f y → (y .reason ≡ 0 → ⊥) → (v : Ran) → v ≡ refusedRun (y .reason) → v ≡ running f l
-unread f l y a n v e = e ∙ sym (running-refused f l _ _ (refuses a n))
+pub unread : (f l : List ℕ) (y : Layout) → y ≡ layoutOf f → (y .reason ≡ 0 → ⊥) → (v : Ran) → v ≡ refusedRun (y .reason) → v ≡ running f l
+unread f l y a n v e = e ∙ sym (running-refused f l _ _ (refuses f y a n))
 
 -- the shares `at` are what the chain makes of l, up to stage t
 pub record RunTo (f : List ℕ) (y : Layout) (l at : List ℕ) (t : ℕ) : Type 0 where
@@ -129,17 +129,17 @@ pub record RunTo (f : List ℕ) (y : Layout) (l at : List ℕ) (t : ℕ) : Type 
   pub fit : sharesFit (y .head .m) (y .head .s) l ≡ true
   pub sent : Sent (y .head .m) (y .head .s) (meaning f .stages) l at t
 
-module _ (f : List ℕ) (y : Layout) (a : Answers f y) (z : y .reason ≡ 0) where
+module _ (f : List ℕ) (y : Layout) (a : y ≡ layoutOf f) (z : y .reason ≡ 0) where
   pub few-wide : y .head .m ≤ greatestWidth
-  few-wide = described (a .layout z) .bounds .m-high
+  few-wide = described (answers-described f y a z) .bounds .m-high
 
   module _ (l : List ℕ) (b : Bool) (eb : b ≡ sharesFit (y .head .m) (y .head .s) l) where
     pub unfit : not b ≡ true → (v : Ran) → v ≡ refusedRun 15 → v ≡ running f l
-    unfit h v e = e ∙ sym (unfit-end f l y (a .layout z) (sym eb ∙ not-true b h))
+    unfit h v e = e ∙ sym (unfit-end f l y (answers-described f y a z) (sym eb ∙ not-true b h))
 
     pub run-start : not b ≡ false → length l ≡ 5 → RunTo f y l l 0
     run-start h n =
-        let d = a .layout z in
+        let d = answers-described f y a z in
         let u = sym eb ∙ not-false b h in
         record { describes = d; fit = u; sent = sent-start _ _ _ l (shares-high f y d) n u }
 
