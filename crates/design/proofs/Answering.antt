@@ -12,14 +12,15 @@ use mir.Val.{Fits}
 use Rattle.finite.specs.Tests.{pick, tabulate}
 use Rattle.finite.proofs.Testing.{tabulate-more}
 use Rattle.design.specs.Bytes.{byte, u16At}
-use Rattle.design.specs.Layout.{checked, Limits, noStarts, startOf, startsTo, refusedLayout, layoutOf}
-use Rattle.design.specs.Limits.{greatestRecords, broken}
-use Rattle.design.specs.Reading.{lastOf, frame, faultAt, refused, means, reading, walk, place, headOf, meaning}
+use Rattle.design.specs.Layout.{Limits, noStarts, startOf, startsTo, refusedLayout, layoutOf}
+use Rattle.design.specs.Limits.{greatestRecords, broken, checked}
+use Rattle.design.specs.Reading.{lastOf, frameFault, faultAt, refused, means, reading, walk, place, headOf, meaning}
 use Rattle.design.specs.declared.Head.{Head}
 use Rattle.design.specs.declared.Layout.{Layout}
 use Rattle.design.specs.declared.Checked.{Checked}
 use Rattle.design.specs.declared.Checked.the-variants.{Good, Beyond}
-use Rattle.design.proofs.Walking.{fault-framed, walk-next, walk-stop, walk-over, walk-done, place-next, head-size, head-cut, head-beyond, head-good, head-next}
+use Rattle.design.proofs.Records.{fault-framed}
+use Rattle.design.proofs.Walking.{walk-next, walk-stop, walk-over, walk-done, place-next, head-size, head-cut, head-beyond, head-good, head-next}
 
 -- a refusal
 answers-refused : (f : List ℕ) (l : Layout) (r p : ℕ) → reading f ≡ refused r p → l ≡ refusedLayout r p → l ≡ layoutOf f
@@ -117,10 +118,10 @@ module _ (f : List ℕ) (h : Head) (i at r : ℕ) (er : r ≡ faultAt f h i at) 
 
 -- ---- `read`: r is the fault of the head's frame, v the constructor's answer for its numbers m, s, k
 
-module _ (f : List ℕ) (r : ℕ) (er : r ≡ frame f 0 1 3) where
+module _ (f : List ℕ) (r : ℕ) (er : r ≡ frameFault f 0 1 3) where
   pub head-wrong : (y : Layout) → y ≡ refusedLayout r 0 → (r ≡ 0 → ⊥) → y ≡ layoutOf f
   head-wrong y a e =
-      let d : frame f 0 1 3 ≡ 0 → ⊥ = λ z. e (er ∙ z) in
+      let d : frameFault f 0 1 3 ≡ 0 → ⊥ = λ z. e (er ∙ z) in
       answers-refused f y _ _ (head-cut f d) (a ∙ ap (λ (x : ℕ). refusedLayout x 0) er)
 
   module _ (z : r ≡ 0) where

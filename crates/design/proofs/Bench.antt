@@ -3,16 +3,17 @@ use Prim.Native.Nat.{ℕ}
 use mathlib.Core.Path.{_≡_, refl}
 use mathlib.Core.List.{map}
 use Rattle.finite.specs.Tests.{all, tabulate}
+use Rattle.finite.specs.Faults.{firstFault}
 use Rattle.anf.specs.Terms.{before}
 use Rattle.design.specs.Limits.{broken}
 use Rattle.design.specs.Bytes.{u16At, u32At, termBytes}
 use Rattle.design.specs.Encode.{join, aRecord, stageBytes, encode}
-use Rattle.design.specs.Reading.{lastOf, numberOf, kindDue, sizeDue, lengthDue, frame, entryFits, previous, termFits, body, faultAt, place, tableAt, listAt, stageAt, meaning, walk, reading}
+use Rattle.design.specs.Reading.{lastOf, numberOf, kindDue, sizeDue, lengthDue, frameFault, entryFits, previous, termFits, bodyFault, faultAt, place, tableAt, listAt, stageAt, meaning, walk, reading}
 use Rattle.design.specs.Bench.{fileD, designD, rows}
 
 -- the definitions that computing a reading opens
 unfoldable pub computing : ℕ
-unfolding all tabulate before broken u16At u32At lastOf numberOf kindDue sizeDue lengthDue frame entryFits previous termFits body faultAt place tableAt listAt stageAt meaning walk reading
+unfolding all tabulate before broken u16At u32At lastOf numberOf kindDue sizeDue lengthDue firstFault frameFault entryFits previous termFits bodyFault faultAt place tableAt listAt stageAt meaning walk reading
 computing = 0
 
 pub bench : map (λ r. reading (r .file)) rows ≡ map (λ r. r .answer) rows

@@ -11,10 +11,10 @@ use Rattle.design.specs.Limits.{greatestTerms}
 use Rattle.design.specs.Bytes.{byte, u16At, u32At, two, four, termBytes}
 use Rattle.design.specs.Design.{Design, Stage, noStage, stageOf, listOf, TableFits, ListFits, WellFormed}
 use Rattle.design.specs.Encode.{join, aRecord}
-use Rattle.design.specs.Reading.{lastOf, numberOf, kindDue, sizeDue, lengthDue, frame, entryFits, previous, termFits, body, faultAt, means, reading, walk, place, headOf, meaning, stageAt, tableAt, listAt}
+use Rattle.design.specs.Reading.{lastOf, numberOf, kindDue, sizeDue, lengthDue, frameFault, entryFits, previous, termFits, bodyFault, faultAt, means, reading, walk, place, headOf, meaning, stageAt, tableAt, listAt}
 use Rattle.design.specs.declared.Head.{Head}
 use Rattle.design.proofs.Flat.{headFor, stageBody, bodyOf, recordOf, flat}
-use Rattle.design.proofs.Records.{body-2, body-3, body-4, fault-body, entry-fits, term-fits}
+use Rattle.design.proofs.Records.{body-1, body-2, body-3, body-4, fault-body, entry-fits, term-fits}
 use Rattle.design.proofs.Walking.{place-next}
 use Rattle.design.proofs.TermBytes.{little-four, length-termBytes}
 use Rattle.design.proofs.Found.{staged, record-cases, number-low}
@@ -27,6 +27,7 @@ use borrow.Author.Tests.{le-ltb, le-leb, eq-eqb, ne-eqb}
 use lib.ListN.{length, getD, drop, length-drop, length-append, List·getD-append}
 use lib.Seq.{getD-drop, drop-drop, drop-append-seam, take-append-seam, drop-append-le}
 use lib.Dec.{eqb}
+use Rattle.finite.specs.Faults.{firstFault}
 
 -- what stands at a place: a number of two bytes, of four bytes
 module _ (f : List ℕ) (at : ℕ) where
@@ -72,8 +73,8 @@ holds f at k b r e =
     }
 
 -- a record that holds has no fault in its frame
-frame-zero : (f : List ℕ) (at k z : ℕ) (b : List ℕ) → Holds f at k b → lengthDue k z (length b) ≡ true → frame f at k z ≡ 0
-unfolding frame
+frame-zero : (f : List ℕ) (at k z : ℕ) (b : List ℕ) → Holds f at k b → lengthDue k z (length b) ≡ true → frameFault f at k z ≡ 0
+unfolding frameFault firstFault
 frame-zero f at k z b w l =
     let s = w .size in
     let d : lengthDue k z (u16At f at) ≡ true = rw s l in
@@ -81,7 +82,7 @@ frame-zero f at k z b w l =
     let r : u16At f at ≤ length f - at - 4 = omega arith in
     simp (le-ltb _ _ q, eq-eqb _ _ (w .kind), d, le-ltb _ _ r)
 
-fault-zero : (f : List ℕ) (h : Head) (i at k : ℕ) (b : List ℕ) → k ≡ kindDue h i → Holds f at k b → lengthDue k (sizeDue h k) (length b) ≡ true → body f h k (at + 4) (length b) ≡ 0 → faultAt f h i at ≡ 0
+fault-zero : (f : List ℕ) (h : Head) (i at k : ℕ) (b : List ℕ) → k ≡ kindDue h i → Holds f at k b → lengthDue k (sizeDue h k) (length b) ≡ true → bodyFault f h k (at + 4) (length b) ≡ 0 → faultAt f h i at ≡ 0
 fault-zero f h i at k b e w l c = fault-body f h i at k (sizeDue h k) e refl (frame-zero f at k (sizeDue h k) b w l) ∙ rw (w .size) c
 
 -- a table's entries
@@ -203,8 +204,8 @@ module _ (d : Design) (w : WellFormed d) where
   None i = faultAt (flat d) (headFor d) i (place (flat d) i) ≡ 0
 
   none-head : None 0
-  unfolding kindDue sizeDue lengthDue bodyOf body
-  none-head = fault-zero (flat d) (headFor d) 0 _ 1 (bodyOf d 0) refl (record-at 0 (omega arith)) refl (simp (w .limits))
+  unfolding kindDue sizeDue lengthDue bodyOf
+  none-head = fault-zero (flat d) (headFor d) 0 _ 1 (bodyOf d 0) refl (record-at 0 (omega arith)) refl (body-1 _ _ 1 _ _ refl ∙ simp (w .limits))
 
   none-box : None 1
   unfolding kindDue bodyOf

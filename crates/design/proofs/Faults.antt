@@ -10,10 +10,11 @@ use borrow.Author.Tests.{lt-ltb, le-ltb, eq-eqb, ne-eqb, not-true, not-false}
 use lib.ListN.{length, getD}
 use lib.Dec.{leb, eqb}
 use Rattle.finite.specs.Tests.{all}
+use Rattle.finite.specs.Faults.{firstFault}
 use Rattle.finite.proofs.Testing.{all-fails, all-more}
 use Rattle.anf.specs.Terms.{before}
 use Rattle.design.specs.Bytes.{u16At, u32At}
-use Rattle.design.specs.Reading.{kindDue, sizeDue, lengthDue, frame, entryFits, previous, termFits, faultAt}
+use Rattle.design.specs.Reading.{kindDue, sizeDue, lengthDue, frameFault, entryFits, previous, termFits, faultAt}
 use Rattle.design.specs.declared.Head.{Head}
 use Rattle.design.proofs.Records.{framed, entry-high, entry-fits, term-falls, term-high, term-fits, previous-more, fault-frame, fault-body, fault-table, fault-list, body-4, kind-later}
 
@@ -35,29 +36,29 @@ module _ (kind size n : ℕ) where
 -- ---- `framed`: k is the record's kind, n its length, b whether that may be
 
 module _ (f : List ℕ) (at kind size : ℕ) where
-  pub head-short : length f - at < 4 → 1 ≡ frame f at kind size
-  unfolding frame
+  pub head-short : length f - at < 4 → 1 ≡ frameFault f at kind size
+  unfolding frameFault firstFault
   head-short h = simp (lt-ltb _ _ h)
 
   module _ (a : 4 ≤ length f - at) (k : ℕ) (ek : k ≡ u16At f (at + 2)) where
-    pub other-kind : (k ≡ kind → ⊥) → 2 ≡ frame f at kind size
-    unfolding frame
+    pub other-kind : (k ≡ kind → ⊥) → 2 ≡ frameFault f at kind size
+    unfolding frameFault firstFault
     other-kind h = simp (le-ltb _ _ a, ne-eqb _ _ (λ e. h (ek ∙ e)))
 
     module _ (q : k ≡ kind) (n : ℕ) (en : n ≡ u16At f at) (b : Bool) (eb : b ≡ lengthDue kind size n) where
       due : b ≡ true → lengthDue kind size (u16At f at) ≡ true
       due h = sym (ap (lengthDue kind size) en) ∙ sym eb ∙ h
 
-      pub body-short : b ≡ true → length f - at - 4 < n → 1 ≡ frame f at kind size
-      unfolding frame
+      pub body-short : b ≡ true → length f - at - 4 < n → 1 ≡ frameFault f at kind size
+      unfolding frameFault firstFault
       body-short t h = simp (le-ltb _ _ a, eq-eqb _ _ (sym ek ∙ q), due t, lt-ltb _ _ (rw en at h))
 
-      pub frame-good : b ≡ true → n ≤ length f - at - 4 → 0 ≡ frame f at kind size
-      unfolding frame
+      pub frame-good : b ≡ true → n ≤ length f - at - 4 → 0 ≡ frameFault f at kind size
+      unfolding frameFault firstFault
       frame-good t h = simp (le-ltb _ _ a, eq-eqb _ _ (sym ek ∙ q), due t, le-ltb _ _ (rw en at h))
 
-      pub wrong-length : b ≡ false → 3 ≡ frame f at kind size
-      unfolding frame
+      pub wrong-length : b ≡ false → 3 ≡ frameFault f at kind size
+      unfolding frameFault firstFault
       wrong-length h = simp (le-ltb _ _ a, eq-eqb _ _ (sym ek ∙ q), sym (ap (lengthDue kind size) en) ∙ sym eb ∙ h)
 
 -- ---- `entries_fit`: b is entry x
@@ -119,8 +120,8 @@ module _ (f : List ℕ) (start n bound j : ℕ) where
 
 -- ---- `fault`: r is the frame's, n the length of the body, p the bound, t whether the body passes
 
-module _ (f : List ℕ) (at kind size r : ℕ) (er : r ≡ frame f at kind size) (z : r ≡ 0) where
-  none : frame f at kind size ≡ 0
+module _ (f : List ℕ) (at kind size r : ℕ) (er : r ≡ frameFault f at kind size) (z : r ≡ 0) where
+  none : frameFault f at kind size ≡ 0
   none = sym er ∙ z
 
   pub length-there : at + 2 ≤ length f
@@ -133,7 +134,7 @@ module _ (f : List ℕ) (at kind size r : ℕ) (er : r ≡ frame f at kind size)
     pub terms-there : at + 4 + 4 * (n / 4) ≤ length f
     terms-there = omega (arith, framed f at kind size none .rest)
 
-module _ (f : List ℕ) (h : Head) (i at kind size : ℕ) (k : kind ≡ kindDue h i) (s : size ≡ sizeDue h kind) (r : ℕ) (er : r ≡ frame f at kind size) where
+module _ (f : List ℕ) (h : Head) (i at kind size : ℕ) (k : kind ≡ kindDue h i) (s : size ≡ sizeDue h kind) (r : ℕ) (er : r ≡ frameFault f at kind size) where
   pub frame-fault : (r ≡ 0 → ⊥) → r ≡ faultAt f h i at
   frame-fault e = er ∙ sym (fault-frame f h i at kind size k s (λ q. e (er ∙ q)))
 

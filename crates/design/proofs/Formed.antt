@@ -16,14 +16,9 @@ use Rattle.design.specs.Bytes.{byte, u16At, u32At}
 use Rattle.design.specs.Design.{TableFits, ListFits, StageFits, WellFormed}
 use Rattle.design.specs.Reading.{numberOf, kindDue, sizeDue, lengthDue, entryFits, previous, termFits, faultAt, means, reading, place, headOf, meaning, stageAt, tableAt, listAt}
 use Rattle.design.specs.declared.Head.{Head}
-use Rattle.design.proofs.Records.{kept, body-2, body-3, previous-more}
-use Rattle.design.proofs.Walking.{fault-framed, body-none}
+use Rattle.design.proofs.Records.{entry-below, body-2, body-3, previous-more, fault-framed, body-none, pick-passed}
 use Rattle.design.proofs.Found.{fine, limits-file, stage-is, staged, number-low}
 use Rattle.design.proofs.Written.{list-size, last-two}
-
-entry-below : (f : List ℕ) (start bound x : ℕ) → entryFits f start bound x ≡ true → byte f (start + x) < bound
-unfolding entryFits
-entry-below f start bound x e = ltb-true _ _ e
 
 term-rises : (f : List ℕ) (start bound j : ℕ) → termFits f start bound j ≡ true → (eqb j 0 || before (previous f start j) (u32At f (start + 4 * j))) ≡ true
 unfolding termFits
@@ -41,7 +36,7 @@ module _ (f : List ℕ) (h : Head) (i at : ℕ) (e : faultAt f h i at ≡ 0) whe
       let s : u16At f at ≡ 2 ^ h .m = eqb-true _ _ (w .size) in
       let r = w .rest in
       let l : 2 ^ h .m ≤ length (drop (at + 4) f) = rw length-drop (omega arith) in
-      let c : all (u16At f at) (entryFits f (at + 4) (2 ^ h .m)) ≡ true = kept _ 0 5 (lit< tt) (sym (body-2 f h 2 (at + 4) (u16At f at) refl) ∙ rw k at (body-none f h i at e)) .0 in
+      let c : all (u16At f at) (entryFits f (at + 4) (2 ^ h .m)) ≡ true = pick-passed _ 5 (lit< tt) (sym (body-2 f h 2 (at + 4) (u16At f at) refl) ∙ rw k at (body-none f h i at e)) in
       record {
         size = length-take-le _ _ l;
         below = λ x u. rw (getD-take _ (drop (at + 4) f) x 0 u, getD-drop (at + 4) f x 0) (entry-below f (at + 4) (2 ^ h .m) x (all-at _ _ c x (rw s u)));
@@ -52,7 +47,7 @@ module _ (f : List ℕ) (h : Head) (i at : ℕ) (e : faultAt f h i at ≡ 0) whe
   list-fits k =
       let w = rw k at (fault-framed f h i at e) in
       let s = list-size (4 * greatestTerms) (u16At f at) (w .size) in
-      let c : all (u16At f at / 4) (termFits f (at + 4) (2 ^ (h .m * h .s))) ≡ true = kept _ 0 6 (lit< tt) (sym (body-3 f h 3 (at + 4) (u16At f at) refl) ∙ rw k at (body-none f h i at e)) .0 in
+      let c : all (u16At f at / 4) (termFits f (at + 4) (2 ^ (h .m * h .s))) ≡ true = pick-passed _ 6 (lit< tt) (sym (body-3 f h 3 (at + 4) (u16At f at) refl) ∙ rw k at (body-none f h i at e)) in
       let n = u16At f at / 4 in
       let g : ℕ → ℕ = λ j. u32At f (at + 4 + 4 * j) in
       let l : length (tabulate n g) ≡ n = tabulate-length n g in

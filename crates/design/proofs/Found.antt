@@ -13,6 +13,7 @@ use lib.ListN.{length, getD, take, drop}
 use lib.Seq.{getD-take, getD-drop}
 use lib.Arith.{digits-lt, digits-mod, digits-div}
 use lib.Dec.{ltb, eqb, lit<}
+use Prim.Native.String.{past}
 use Rattle.finite.specs.Tests.{pick}
 use Rattle.finite.proofs.Testing.{tabulate-at}
 use Rattle.design.specs.Limits.{greatestWidth, greatestShares, greatestShareBits, greatestTerms}
@@ -23,8 +24,8 @@ use Rattle.design.specs.Reading.{lastOf, numberOf, kindDue, sizeDue, len
 use Rattle.design.specs.declared.Head.{Head}
 use Rattle.design.specs.declared.Layout.{Layout}
 use Rattle.design.proofs.Limits.{Bounds, bounds}
-use Rattle.design.proofs.Records.{Framed, past}
-use Rattle.design.proofs.Walking.{frame-none, fault-framed, head-body, place-next}
+use Rattle.design.proofs.Records.{Framed, pick-missed, frame-none, fault-framed}
+use Rattle.design.proofs.Walking.{head-body, place-next}
 
 -- a walk that ends in a design met no fault
 module _ (f : List ℕ) (h : Head) (d : Design) where
@@ -117,7 +118,7 @@ module _ (f : List ℕ) (r : reading f ≡ means (meaning f)) where
   unfolding place kindDue sizeDue
   limits-file =
       let e : faultAt f (headOf f) 0 0 ≡ 0 = fine 0 (omega arith) in
-      past _ 4 0 (lit< tt) (sym (head-body f (frame-none f (headOf f) 0 0 e)) ∙ e) .0
+      pick-missed _ 4 (lit< tt) (sym (head-body f (frame-none f (headOf f) 0 0 e)) ∙ e)
 
   module _ (t : ℕ) (a : t < headOf f .k) where
     pub stage-is : stageOf (meaning f) t ≡ stageAt f (headOf f) t

@@ -9,8 +9,7 @@ use lib.Pow.{pow-mono}
 use borrow.Author.Tests.{lt-ltb, le-ltb, eq-eqb, ne-eqb}
 use mir.Syntax.{w32, w64}
 use mir.Val.{Fits}
-use Rattle.design.specs.Limits.{greatestWidth, leastShares, greatestShares, greatestShareBits, greatestStages, greatestTerms, greatestRecords, broken}
-use Rattle.design.specs.Layout.{checked}
+use Rattle.design.specs.Limits.{greatestWidth, leastShares, greatestShares, greatestShareBits, greatestStages, greatestTerms, greatestRecords, broken, checked}
 use Rattle.design.specs.Reading.{lastOf, numberOf, kindDue, sizeDue}
 use Rattle.design.specs.declared.Head.{Head}
 use Rattle.design.specs.declared.Checked.the-variants.{Good, Beyond}

@@ -1,19 +1,24 @@
--- Laws of one record: its entries, its terms, its frame and its body, and what a record without fault says.
-use Prim.Native.Nat.{ℕ, _+_, _*_, _-_, _/_, _%_, _^_, _≤_, _<_}
-use mathlib.Core.Path.{_≡_, refl, _∙_}
-use mathlib.Core.List.{List}
-use mathlib.Core.Bool.{Bool, true, false, _||_}
+-- Laws of one record: its entries, its terms, its head and length, its body, and what a record without fault says.
+use Prim.Native.Nat.{ℕ, zero, suc, _+_, _*_, _-_, _/_, _%_, _^_, _≤_, _<_}
+use mathlib.Core.Path.{_≡_, refl, _∙_, sym}
+use mathlib.Core.List.{List, []}
+use mathlib.Core.Bool.{Bool, true, false, _||_, not}
 use native.Mathlib.Omega.{arith}
 use native.Mathlib.Numerals.{add-one}
-use borrow.Author.Tests.{ltb-false, eqb-true, lt-ltb, le-ltb, ne-eqb, not-false}
+use borrow.Author.Tests.{ltb-false, eqb-true, lt-ltb, le-ltb, ne-eqb, not-false, ltb-true}
 use lib.ListN.{length}
 use lib.Dec.{eqb, lit<}
+use mathlib.Core.Logic.{⊎-elim, _⊎_, inl, inr}
 use Rattle.finite.specs.Tests.{pick, all}
+use Rattle.finite.specs.Faults.{firstFault}
 use Rattle.finite.proofs.Testing.{and-false-right}
+use Rattle.finite.proofs.Faults.{no-fault, fault-front, fault-past}
 use Rattle.anf.specs.Terms.{before}
 use Rattle.design.specs.Bytes.{byte, u16At, u32At}
-use Rattle.design.specs.Reading.{lastOf, kindDue, sizeDue, lengthDue, frame, entryFits, previous, termFits, body, faultAt}
+use Rattle.design.specs.Reading.{lastOf, kindDue, sizeDue, lengthDue, frameFaults, frameFault, entryFits, previous, termFits, bodyFaults, bodyFault, faultAt}
 use Rattle.design.specs.declared.Head.{Head}
+use Rattle.design.specs.Limits.{broken}
+use Rattle.design.proofs.Limits.{head-number}
 
 module _ (f : List ℕ) (start bound x : ℕ) where
   pub entry-high : bound ≤ byte f (start + x) → entryFits f start bound x ≡ false
@@ -23,6 +28,14 @@ module _ (f : List ℕ) (start bound x : ℕ) where
   pub entry-fits : byte f (start + x) < bound → entryFits f start bound x ≡ true
   unfolding entryFits
   entry-fits h = lt-ltb _ _ h
+
+  pub entry-below : entryFits f start bound x ≡ true → byte f (start + x) < bound
+  unfolding entryFits
+  entry-below e = ltb-true _ _ e
+
+  pub entry-not : entryFits f start bound x ≡ false → bound ≤ byte f (start + x)
+  unfolding entryFits
+  entry-not e = ltb-false _ _ e
 
 module _ (f : List ℕ) (start bound j : ℕ) where
   pub term-falls : (eqb j 0 || before (previous f start j) (u32At f (start + 4 * j))) ≡ false → termFits f start bound j ≡ false
@@ -41,15 +54,6 @@ module _ (f : List ℕ) (start bound j : ℕ) where
   unfolding previous
   previous-more = rw add-one
 
--- a test that was passed: it is false where the fault stands first, and true where it stands last
-pub past : (b : Bool) (r x : ℕ) → 0 < r → pick b r x ≡ 0 → (b ≡ false) × (x ≡ 0)
-past true r x p e = absurd (omega arith)
-past false r x p e = (refl, e)
-
-pub kept : (b : Bool) (x r : ℕ) → 0 < r → pick b x r ≡ 0 → (b ≡ true) × (x ≡ 0)
-kept true x r p e = (refl, e)
-kept false x r p e = absurd (omega arith)
-
 -- what a record's frame without fault says
 pub record Framed (f : List ℕ) (at k z : ℕ) : Type 0 where
   pub head : at + 4 ≤ length f
@@ -57,46 +61,84 @@ pub record Framed (f : List ℕ) (at k z : ℕ) : Type 0 where
   pub size : lengthDue k z (u16At f at) ≡ true
   pub rest : at + 4 + u16At f at ≤ length f
 
-pub framed : (f : List ℕ) (at kind size : ℕ) → frame f at kind size ≡ 0 → Framed f at kind size
-unfolding frame
+zero-or : (x : ℕ) → (x ≡ 0) ⊎ (x ≡ 0 → ⊥)
+zero-or zero = inl refl
+zero-or (suc x) = inr (λ e. omega arith)
+
+pub framed : (f : List ℕ) (at kind size : ℕ) → frameFault f at kind size ≡ 0 → Framed f at kind size
+unfolding frameFault
 framed f at kind size e =
-    let a = past _ _ _ (lit< tt) e in
-    let b = past _ _ _ (lit< tt) (a .1) in
-    let c = past _ _ _ (lit< tt) (b .1) in
-    let d = past _ _ _ (lit< tt) (c .1) in
+    let a = no-fault _ 1 _ (lit< tt) e in
+    let b = no-fault _ 2 _ (lit< tt) (a .1) in
+    let c = no-fault _ 3 _ (lit< tt) (b .1) in
+    let d = no-fault _ 1 _ (lit< tt) (c .1) in
     let h : 4 ≤ length f - at = ltb-false _ _ (a .0) in
     let l : u16At f at ≤ length f - at - 4 = ltb-false _ _ (d .0) in
     record { head = omega arith; kind = eqb-true _ _ (not-false _ (b .0)); size = not-false _ (c .0); rest = omega arith }
 
+pick-not : (b : Bool) (x y : ℕ) → pick (not b) x y ≡ pick b y x
+pick-not true x y = refl
+pick-not false x y = refl
+
+-- a test that a record without fault passed
+pub pick-passed : (b : Bool) (r : ℕ) → 0 < r → pick b 0 r ≡ 0 → b ≡ true
+pick-passed true r p e = refl
+pick-passed false r p e = absurd (omega arith)
+
+pub pick-missed : (b : Bool) (r : ℕ) → 0 < r → pick b r 0 ≡ 0 → b ≡ false
+pick-missed true r p e = absurd (omega arith)
+pick-missed false r p e = refl
+
 module _ (f : List ℕ) (h : Head) (kind start n : ℕ) where
-  pub body-2 : kind ≡ 2 → body f h kind start n ≡ pick (all n (entryFits f start (2 ^ h .m))) 0 5
-  unfolding body
-  body-2 e = rw e
+  pub body-1 : kind ≡ 1 → bodyFault f h kind start n ≡ pick (broken (h .m) (h .s) (h .k)) 4 0
+  unfolding bodyFault firstFault
+  body-1 e = rw e (head-number (h .m) (h .s) (h .k) [])
 
-  pub body-3 : kind ≡ 3 → body f h kind start n ≡ pick (all (n / 4) (termFits f start (2 ^ (h .m * h .s)))) 0 6
-  unfolding body
-  body-3 e = rw e
+  pub body-2 : kind ≡ 2 → bodyFault f h kind start n ≡ pick (all n (entryFits f start (2 ^ h .m))) 0 5
+  unfolding bodyFault firstFault
+  body-2 e = rw e (pick-not (all n (entryFits f start (2 ^ h .m))) 5 0)
 
-  pub body-4 : (kind ≡ 1 → ⊥) → (kind ≡ 2 → ⊥) → (kind ≡ 3 → ⊥) → body f h kind start n ≡ 0
-  unfolding body
+  pub body-3 : kind ≡ 3 → bodyFault f h kind start n ≡ pick (all (n / 4) (termFits f start (2 ^ (h .m * h .s)))) 0 6
+  unfolding bodyFault firstFault
+  body-3 e = rw e (pick-not (all (n / 4) (termFits f start (2 ^ (h .m * h .s)))) 6 0)
+
+  pub body-4 : (kind ≡ 1 → ⊥) → (kind ≡ 2 → ⊥) → (kind ≡ 3 → ⊥) → bodyFault f h kind start n ≡ 0
+  unfolding bodyFault firstFault
   body-4 a b c = simp (ne-eqb _ _ a, ne-eqb _ _ b, ne-eqb _ _ c)
 
 module _ (f : List ℕ) (h : Head) (i at kind size : ℕ) (k : kind ≡ kindDue h i) (s : size ≡ sizeDue h kind) where
-  pub fault-frame : (frame f at kind size ≡ 0 → ⊥) → faultAt f h i at ≡ frame f at kind size
-  unfolding faultAt
-  fault-frame e = rw (← k) (rw (← s) (simp (ne-eqb _ _ e)))
+  -- the frame's faults come first
+  pub fault-frame : (frameFault f at kind size ≡ 0 → ⊥) → faultAt f h i at ≡ frameFault f at kind size
+  unfolding faultAt frameFault
+  fault-frame e = rw (← k) (rw (← s) (fault-front (frameFaults f at kind size) (bodyFaults f h kind (at + 4) (u16At f at)) e))
 
-  pub fault-body : frame f at kind size ≡ 0 → faultAt f h i at ≡ body f h kind (at + 4) (u16At f at)
-  unfolding faultAt
-  fault-body e = rw (← k) (rw (← s) (simp e))
+  pub fault-body : frameFault f at kind size ≡ 0 → faultAt f h i at ≡ bodyFault f h kind (at + 4) (u16At f at)
+  unfolding faultAt frameFault bodyFault
+  fault-body e =
+      let a = no-fault _ 1 _ (lit< tt) e in
+      let b = no-fault _ 2 _ (lit< tt) (a .1) in
+      let c = no-fault _ 3 _ (lit< tt) (b .1) in
+      let d = no-fault _ 1 _ (lit< tt) (c .1) in
+      rw (← k) (rw (← s) (fault-past _ 1 _ 0 (a .0) ∙ fault-past _ 2 _ 0 (b .0) ∙ fault-past _ 3 _ 0 (c .0) ∙ fault-past _ 1 _ 0 (d .0)))
 
   -- the fault of a table, and that of a list, where the frame has none
-  module _ (z : frame f at kind size ≡ 0) {n p : ℕ} {t b : Bool} (q : n ≡ u16At f at) where
+  module _ (z : frameFault f at kind size ≡ 0) {n p : ℕ} {t b : Bool} (q : n ≡ u16At f at) where
     pub fault-table : kind ≡ 2 → p ≡ 2 ^ h .m → t ≡ all n (entryFits f (at + 4) p) → t ≡ b → faultAt f h i at ≡ pick b 0 5
     fault-table e r a w = fault-body z ∙ body-2 f h kind (at + 4) (u16At f at) e ∙ rw (← q, ← r, ← a, w) refl
 
     pub fault-list : kind ≡ 3 → p ≡ 2 ^ (h .m * h .s) → t ≡ all (n / 4) (termFits f (at + 4) p) → t ≡ b → faultAt f h i at ≡ pick b 0 6
     fault-list e r a w = fault-body z ∙ body-3 f h kind (at + 4) (u16At f at) e ∙ rw (← q, ← r, ← a, w) refl
+
+-- a record without fault has none in its frame, and none in its body
+module _ (f : List ℕ) (h : Head) (i at : ℕ) (e : faultAt f h i at ≡ 0) where
+  pub frame-none : frameFault f at (kindDue h i) (sizeDue h (kindDue h i)) ≡ 0
+  frame-none = ⊎-elim (λ z. z) (λ n. sym (fault-frame f h i at _ _ refl refl n) ∙ e) (zero-or (frameFault f at (kindDue h i) (sizeDue h (kindDue h i))))
+
+  pub body-none : bodyFault f h (kindDue h i) (at + 4) (u16At f at) ≡ 0
+  body-none = sym (fault-body f h i at _ _ refl refl frame-none) ∙ e
+
+  pub fault-framed : Framed f at (kindDue h i) (sizeDue h (kindDue h i))
+  fault-framed = framed f at (kindDue h i) (sizeDue h (kindDue h i)) frame-none
 
 pub kind-later : (h : Head) (i : ℕ) → 1 ≤ i → kindDue h i ≡ 1 → ⊥
 unfolding kindDue

@@ -12,25 +12,9 @@ use lib.Dec.{eqb}
 use Rattle.finite.specs.Tests.{pick}
 use Rattle.design.specs.Bytes.{byte, u16At}
 use Rattle.design.specs.Limits.{broken}
-use Rattle.design.specs.Reading.{lastOf, kindDue, sizeDue, lengthDue, frame, body, faultAt, refused, means, reading, walk, place, headOf, meaning}
+use Rattle.design.specs.Reading.{lastOf, kindDue, sizeDue, lengthDue, frameFault, faultAt, refused, means, reading, walk, place, headOf, meaning}
 use Rattle.design.specs.declared.Head.{Head}
-use Rattle.design.proofs.Records.{Framed, framed, fault-frame, fault-body}
-
--- a record without fault has none in its frame, and none in its body
-module _ (f : List ℕ) (h : Head) (i at : ℕ) (e : faultAt f h i at ≡ 0) where
-  pub frame-none : frame f at (kindDue h i) (sizeDue h (kindDue h i)) ≡ 0
-  unfolding faultAt
-  frame-none = go (frame f at (kindDue h i) (sizeDue h (kindDue h i))) (body f h (kindDue h i) (at + 4) (u16At f at)) _ refl e
-    where
-      go : (r d : ℕ) (b : Bool) → eqb r 0 ≡ b → pick b d r ≡ 0 → r ≡ 0
-      go r d true q e = eqb-true r 0 q
-      go r d false q e = e
-
-  pub body-none : body f h (kindDue h i) (at + 4) (u16At f at) ≡ 0
-  body-none = sym (fault-body f h i at _ _ refl refl frame-none) ∙ e
-
-  pub fault-framed : Framed f at (kindDue h i) (sizeDue h (kindDue h i))
-  fault-framed = framed f at (kindDue h i) (sizeDue h (kindDue h i)) frame-none
+use Rattle.design.proofs.Records.{framed, fault-frame, fault-body, body-1, fault-framed}
 
 module _ (f : List ℕ) (h : Head) (n i at : ℕ) where
   pub walk-next : i < n → faultAt f h i at ≡ 0 → walk f h (n - i) i at ≡ walk f h (n - (i + 1)) (i + 1) (at + 4 + u16At f at)
@@ -67,7 +51,7 @@ start-walk f = rw sub-zero
 
 -- the head record
 module _ (f : List ℕ) where
-  pub head-size : frame f 0 1 3 ≡ 0 → (u16At f 0 ≡ 3) × (7 ≤ length f)
+  pub head-size : frameFault f 0 1 3 ≡ 0 → (u16At f 0 ≡ 3) × (7 ≤ length f)
   unfolding lengthDue
   head-size e =
       let w = framed f 0 1 3 e in
@@ -82,21 +66,20 @@ module _ (f : List ℕ) where
   unfolding sizeDue
   head-due h = refl
 
-  pub head-cut : (frame f 0 1 3 ≡ 0 → ⊥) → reading f ≡ refused (frame f 0 1 3) 0
+  pub head-cut : (frameFault f 0 1 3 ≡ 0 → ⊥) → reading f ≡ refused (frameFault f 0 1 3) 0
   head-cut e =
-      let q : faultAt f (headOf f) 0 0 ≡ frame f 0 1 3 = fault-frame f (headOf f) 0 0 1 3 (head-kind _) (head-due _) e in
+      let q : faultAt f (headOf f) 0 0 ≡ frameFault f 0 1 3 = fault-frame f (headOf f) 0 0 1 3 (head-kind _) (head-due _) e in
       start-walk f ∙ walk-stop f (headOf f) (lastOf (headOf f) + 1) 0 0 (omega arith) (λ z. e (sym q ∙ z)) ∙ ap (λ (r : ℕ). refused r 0) q
 
-  pub head-body : frame f 0 1 3 ≡ 0 → faultAt f (headOf f) 0 0 ≡ pick (broken (byte f 4) (byte f 5) (byte f 6)) 4 0
-  unfolding body
-  head-body e = fault-body f (headOf f) 0 0 1 3 (head-kind _) (head-due _) e
+  pub head-body : frameFault f 0 1 3 ≡ 0 → faultAt f (headOf f) 0 0 ≡ pick (broken (byte f 4) (byte f 5) (byte f 6)) 4 0
+  head-body e = fault-body f (headOf f) 0 0 1 3 (head-kind _) (head-due _) e ∙ body-1 f (headOf f) 1 4 (u16At f 0) refl
 
-  pub head-beyond : frame f 0 1 3 ≡ 0 → broken (byte f 4) (byte f 5) (byte f 6) ≡ true → reading f ≡ refused 4 0
+  pub head-beyond : frameFault f 0 1 3 ≡ 0 → broken (byte f 4) (byte f 5) (byte f 6) ≡ true → reading f ≡ refused 4 0
   head-beyond e b =
       let q : faultAt f (headOf f) 0 0 ≡ 4 = head-body e ∙ simp b in
       start-walk f ∙ walk-stop f (headOf f) (lastOf (headOf f) + 1) 0 0 (omega arith) (λ z. omega (arith, q, z)) ∙ ap (λ (r : ℕ). refused r 0) q
 
-  pub head-good : frame f 0 1 3 ≡ 0 → broken (byte f 4) (byte f 5) (byte f 6) ≡ false → faultAt f (headOf f) 0 0 ≡ 0
+  pub head-good : frameFault f 0 1 3 ≡ 0 → broken (byte f 4) (byte f 5) (byte f 6) ≡ false → faultAt f (headOf f) 0 0 ≡ 0
   head-good e b = head-body e ∙ simp b
 
   -- where the walk stands after the head

@@ -22,7 +22,8 @@ use Rattle.design.specs.declared.Head.{Head}
 use Rattle.design.specs.declared.Layout.{Layout}
 use Rattle.design.proofs.Flat.{headFor, stageBody, bodyOf, recordOf, flat}
 use Rattle.design.proofs.Records.{Framed}
-use Rattle.design.proofs.Walking.{frame-none, fault-framed, head-size}
+use Rattle.design.proofs.Walking.{head-size}
+use Rattle.design.proofs.Records.{frame-none, fault-framed}
 use Rattle.design.proofs.Found.{number-two, number-low, number-div, number-mod, record-cases, ends, fine, stage-is, list-is, table-framed, list-framed, Part}
 use Rattle.design.proofs.Joined.{join-snoc}
 

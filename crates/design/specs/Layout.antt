@@ -12,15 +12,6 @@ use Rattle.design.specs.declared.Checked.{Checked}
 use Rattle.design.specs.declared.Checked.the-variants.{Good, Beyond}
 use Rattle.design.specs.declared.Layout.{Layout}
 
--- the answer of the head's constructor
-abbrev pub checked : ℕ → ℕ → ℕ → Checked
-checked m s k = pick (broken m s k) Beyond (Good (record { m = m; s = s; k = k }))
-
--- the paper's number for it
-abbrev pub refusalOf : Checked → ℕ
-refusalOf (Good h) = 0
-refusalOf Beyond = 4
-
 -- a head within the limits
 abbrev pub Limits : Head → Type 0
 Limits h = broken (h .m) (h .s) (h .k) ≡ false

@@ -5,6 +5,7 @@ pub mod Bytes
 pub mod Encode
 pub mod Writing
 pub mod Reading
+pub mod Refused
 pub mod Layout
 pub mod StageLists
 pub mod Bench

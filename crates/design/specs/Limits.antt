@@ -1,8 +1,13 @@
 -- The limits of the head and of a list.
 use Prim.Native.Nat.{ℕ, _+_, _*_}
-use mathlib.Core.Bool.{Bool, _||_}
-use lib.Dec.{ltb}
+use mathlib.Core.Bool.{Bool, _||_, not}
+use mathlib.Core.List.{List, [], _∷_}
+use lib.Dec.{ltb, eqb}
+use Rattle.finite.specs.Tests.{pick}
 use Rattle.anf.specs.Transform as transform
+use Rattle.design.specs.declared.Head.{Head}
+use Rattle.design.specs.declared.Checked.{Checked}
+use Rattle.design.specs.declared.Checked.the-variants.{Good, Beyond}
 
 abbrev pub greatestWidth : ℕ
 greatestWidth = transform.greatestWidth
@@ -31,3 +36,16 @@ greatestRecords = 3 + greatestStages * (1 + greatestShareBits)
 unfoldable pub broken : ℕ → ℕ → ℕ → Bool
 broken m s k =
     ltb m 1 || ltb greatestWidth m || ltb s leastShares || ltb greatestShares s || ltb greatestShareBits (m * s) || ltb k 1 || ltb greatestStages k
+
+-- the answer of the head's constructor
+abbrev pub checked : ℕ → ℕ → ℕ → Checked
+checked m s k = pick (broken m s k) Beyond (Good (record { m = m; s = s; k = k }))
+
+-- the paper's number and values for each of its cases: "4 when a head number breaks a limit"
+abbrev pub headAnswer : Checked → ℕ × List ℕ
+headAnswer (Good h) = (0, h .m ∷ h .s ∷ h .k ∷ [])
+headAnswer Beyond = (4, [])
+
+-- in a published order of faults: whether it is one, and its number
+abbrev pub headFault : Checked → Bool × ℕ
+headFault c = (not (eqb (headAnswer c .0) 0), headAnswer c .0)

@@ -1,12 +1,13 @@
 -- Reading: the first fault of a file with its place, or the design that it means.
 use Prim.Native.Nat.{ℕ, zero, suc, _+_, _*_, _-_, _/_, _%_, _^_}
-use mathlib.Core.List.{List}
+use mathlib.Core.List.{List, [], _∷_, _++_}
 use mathlib.Core.Bool.{Bool, _&&_, _||_, not}
 use lib.ListN.{length, take, drop}
 use lib.Dec.{ltb, leb, eqb}
 use Rattle.finite.specs.Tests.{pick, all, tabulate}
+use Rattle.finite.specs.Faults.{firstFault}
 use Rattle.anf.specs.Terms.{before}
-use Rattle.design.specs.Limits.{greatestTerms, broken}
+use Rattle.design.specs.Limits.{greatestTerms, checked, headFault}
 use Rattle.design.specs.Design.{Stage, Design}
 use Rattle.design.specs.Bytes.{byte, u16At, u32At}
 use Rattle.design.specs.declared.Head.{Head}
@@ -46,15 +47,20 @@ sizeDue h kind = pick (eqb kind 1) 3 (pick (eqb kind 2) (2 ^ h .m) (pick (eqb ki
 unfoldable pub lengthDue : ℕ → ℕ → ℕ → Bool
 lengthDue kind size n = pick (eqb kind 3) (eqb (n % 4) 0 && leb n size) (eqb n size)
 
--- ---- The first fault of one record, 0 where it has none.
+-- ---- The faults of one record: tests in the published order, each with the number that it gives.
 
--- of its head and its length: head cut short, kind, length, body cut short
-unfoldable pub frame : List ℕ → ℕ → ℕ → ℕ → ℕ
-frame f at kind size =
-    pick (ltb (length f - at) 4) 1
-    (pick (not (eqb (u16At f (at + 2)) kind)) 2
-    (pick (not (lengthDue kind size (u16At f at))) 3
-    (pick (ltb (length f - at - 4) (u16At f at)) 1 0)))
+-- of its head and its length
+abbrev pub frameFaults : List ℕ → ℕ → ℕ → ℕ → List (Bool × ℕ)
+frameFaults f at kind size =
+    -- the four-byte head is cut short
+    (ltb (length f - at) 4, 1) ∷
+    -- the kind is not the one due
+    (not (eqb (u16At f (at + 2)) kind), 2) ∷
+    -- the length is not the one due
+    (not (lengthDue kind size (u16At f at)), 3) ∷
+    -- the body is cut short
+    (ltb (length f - at - 4) (u16At f at), 1) ∷
+    []
 
 -- a table's entry x is below bound
 unfoldable pub entryFits : List ℕ → ℕ → ℕ → ℕ → Bool
@@ -70,20 +76,32 @@ unfoldable pub termFits : List ℕ → ℕ → ℕ → ℕ → Bool
 termFits f start bound j =
     (eqb j 0 || before (previous f start j) (u32At f (start + 4 * j))) && ltb (u32At f (start + 4 * j)) bound
 
--- of its body of n bytes from start
-unfoldable pub body : List ℕ → Head → ℕ → ℕ → ℕ → ℕ
-body f h kind start n =
-    pick (eqb kind 1) (pick (broken (h .m) (h .s) (h .k)) 4 0)
-    (pick (eqb kind 2) (pick (all n (entryFits f start (2 ^ h .m))) 0 5)
-    (pick (eqb kind 3) (pick (all (n / 4) (termFits f start (2 ^ (h .m * h .s)))) 0 6)
-    0))
+-- a fault that only records of one kind can have
+abbrev pub onlyOf : ℕ → ℕ → Bool × ℕ → Bool × ℕ
+onlyOf one kind fault = (eqb kind one && fault .0, fault .1)
 
--- of record i, which starts at `at`
+-- of its body of n bytes from start
+abbrev pub bodyFaults : List ℕ → Head → ℕ → ℕ → ℕ → List (Bool × ℕ)
+bodyFaults f h kind start n =
+    -- a head number breaks a limit
+    onlyOf 1 kind (headFault (checked (h .m) (h .s) (h .k))) ∷
+    -- a table entry is 2^m or more
+    onlyOf 2 kind (not (all n (entryFits f start (2 ^ h .m))), 5) ∷
+    -- a term names a variable beyond m × s or does not rise
+    onlyOf 3 kind (not (all (n / 4) (termFits f start (2 ^ (h .m * h .s)))), 6) ∷
+    []
+
+-- the first fault of its head and length, and of its body; 0 where there is none
+unfoldable pub frameFault : List ℕ → ℕ → ℕ → ℕ → ℕ
+frameFault f at kind size = firstFault (frameFaults f at kind size) 0
+
+unfoldable pub bodyFault : List ℕ → Head → ℕ → ℕ → ℕ → ℕ
+bodyFault f h kind start n = firstFault (bodyFaults f h kind start n) 0
+
+-- the first fault of record i, which starts at `at`
 unfoldable pub faultAt : List ℕ → Head → ℕ → ℕ → ℕ
 faultAt f h i at =
-    pick (eqb (frame f at (kindDue h i) (sizeDue h (kindDue h i))) 0)
-    (body f h (kindDue h i) (at + 4) (u16At f at))
-    (frame f at (kindDue h i) (sizeDue h (kindDue h i)))
+    firstFault (frameFaults f at (kindDue h i) (sizeDue h (kindDue h i)) ++ bodyFaults f h (kindDue h i) (at + 4) (u16At f at)) 0
 
 -- ---- The design that a file without fault means.
 

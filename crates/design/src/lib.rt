@@ -24,7 +24,7 @@ pub use writer::put_numbers;
 pub use writer::put_record;
 pub use writer::record_size;
 ghost use mathlib.Core.Path.{_≡_};
-ghost use Rattle.design.specs.Layout.{checked};
+ghost use Rattle.design.specs.Limits.{checked};
 
 // The greatest number of terms of a list.
 pub const GREATEST_TERMS: usize = 4096;

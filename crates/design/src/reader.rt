@@ -17,7 +17,7 @@ ghost use lib.ListN.{length};
 ghost use Rattle.finite.specs.Tests.{all};
 ghost use Rattle.anf.specs.Terms.{before};
 ghost use Rattle.design.specs.Limits.{greatestRecords};
-ghost use Rattle.design.specs.Reading.{headOf, lastOf, kindDue, sizeDue, lengthDue, frame, entryFits, termFits, faultAt};
+ghost use Rattle.design.specs.Reading.{headOf, lastOf, kindDue, sizeDue, lengthDue, frameFault, entryFits, termFits, faultAt};
 ghost use Rattle.design.specs.Layout.{Limits, refusedLayout, layoutOf};
 
 // Whether a record of this kind may have the length `n`.
@@ -36,7 +36,7 @@ fn length_fits(kind: usize, size: usize, n: usize) -> bool
 // The first fault of a record's head and length: 1, 2, 3, 1 in that order, or 0.
 fn framed(file: &[u8], at: usize, kind: usize, size: usize) -> usize
     requires { ⌜ at ≤ length (now file) ⌝ }
-    ensures { λ r. ⌜ r ≡ frame (now (file .entry)) at kind size ⌝ }
+    ensures { λ r. ⌜ r ≡ frameFault (now (file .entry)) at kind size ⌝ }
 {
     if file.len() - at < 4 {
         return 1;

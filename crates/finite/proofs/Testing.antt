@@ -108,6 +108,17 @@ all-intro (suc n) p h = and-intro (all-intro n p (λ i l. h i (le-step l))) (h n
 pub all-fails : (n : ℕ) (p : ℕ → Bool) (i : ℕ) → i < n → p i ≡ false → all n p ≡ false
 all-fails n p i l e = not-true-false (all n p) (λ a. clash (all-at n p a i l) e)
 
+-- where a test fails, it fails somewhere first
+pub all-not : (n : ℕ) (p : ℕ → Bool) → all n p ≡ false → (i : ℕ) × (i < n) × (all i p ≡ true) × (p i ≡ false)
+unfolding all
+all-not zero p e = absurd (true≢false e)
+all-not (suc n) p e = go (all n p) refl e (all-not n p)
+  where
+    go : (b : Bool) → all n p ≡ b → (b && p n) ≡ false → (all n p ≡ false → (i : ℕ) × (i < n) × (all i p ≡ true) × (p i ≡ false))
+        → (i : ℕ) × (i < suc n) × (all i p ≡ true) × (p i ≡ false)
+    go true a e ih = (n, le-refl (suc n), a, e)
+    go false a e ih = let r = ih a in (r .0, le-step (r .1), r .2, r .3)
+
 pub all-congr : (n : ℕ) (p q : ℕ → Bool) → ((i : ℕ) → i < n → p i ≡ q i) → all n p ≡ all n q
 unfolding all
 all-congr zero p q h = refl
