@@ -10,7 +10,6 @@ use lib.ListN.{length, getD, set, take, drop, length-append, length-set}
 use lib.Seq.{sets, sets-eq, paste, paste-zero, paste-suc, take-length, length-take-le, drop-drop, take-at, drop-at, take-append-seam, drop-append-seam, drop-append-add, length-paste}
 use Rattle.finite.proofs.Counting.{total-congr}
 use Rattle.finite.specs.Tests.{total}
-use Rattle.design.specs.Bytes.{termBytes}
 use Rattle.design.specs.inside.Overwriting.{overwrite}
 use Rattle.design.specs.Design.{Stage, Design, noStage, stageOf}
 use Rattle.design.specs.Encode.{join, recordHead, aRecord, headBody, listRecord, endRecord, stageBytes, encode}
@@ -61,9 +60,6 @@ module _ (l b o : List ℕ) (at i : ℕ) where
   pub copied-all : i ≤ length b → length b ≤ i → o ≡ paste l at b i → o ≡ overwrite l at b
   copied-all h k e = let q : i ≡ length b = omega arith in rw q at e ∙ overwrite-paste l at b
 
-pub overwrite-length : (l : List ℕ) (at : ℕ) (b : List ℕ) → at + length b ≤ length l → length (overwrite l at b) ≡ length l
-overwrite-length l at b h = ap length (sym (overwrite-paste l at b)) ∙ length-paste l at b (length b) h (omega arith)
-
 overwrite-is : (l : List ℕ) (at : ℕ) (b : List ℕ) → overwrite l at b ≡ take at l ++ b ++ drop (at + length b) l
 unfolding overwrite
 overwrite-is l at b = refl
@@ -75,12 +71,6 @@ overwrite-nil l at = overwrite-is l at [] ∙ sym (paste-zero l at [])
 -- from the front
 pub overwrite-front : (l b : List ℕ) → overwrite l 0 b ≡ b ++ drop (length b) l
 overwrite-front l b = overwrite-is l 0 b ∙ rw zero-add refl
-
--- in the middle: y takes the place of x
-pub overwrite-middle : (p x q y : List ℕ) → length x ≡ length y → overwrite (p ++ (x ++ q)) (length p) y ≡ p ++ (y ++ q)
-overwrite-middle p x q y e =
-    overwrite-is (p ++ (x ++ q)) (length p) y
-    ∙ rw (take-append-seam p (x ++ q), drop-append-add p (x ++ q) (length y), ← e, drop-append-seam x q) (append-assoc p y q)
 
 module _ (l : List ℕ) (at : ℕ) (a : List ℕ) (h : at ≤ length l) where
   head-length : length (take at l ++ a) ≡ at + length a

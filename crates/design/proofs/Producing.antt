@@ -14,7 +14,6 @@ use Rattle.finite.proofs.Testing.{pick-true, pick-false}
 use Rattle.finite.specs.Tests.{pick}
 use Rattle.design.specs.Writing.{writingAnswer, writingAfter, noFile}
 use Rattle.design.specs.inside.Overwriting.{overwrite}
-use Rattle.design.specs.declared.Produced.{Produced}
 use Rattle.design.proofs.Overwriting.{overwrite-front}
 
 module _ (reason : ℕ) (file : List ℕ) where

@@ -1,16 +1,15 @@
 -- What producing answers and leaves, one law for each way out.
-use mathlib.Core.Path.{_≡_, refl, sym, ap, ap₂, _∙_, subst}
+use mathlib.Core.Path.{_≡_, sym, ap, ap₂, _∙_, subst}
 use mathlib.Core.Logic.{_≢_, ⊎-elim}
 use mathlib.Core.Bool.{Bool, true, false, not, _&&_}
 use mathlib.Core.List.{List, [], _∷_, _++_}
 use Prim.Native.Nat.{ℕ, _+_, _-_, _*_, _/_, _%_, _^_, _≤_, _<_}
 use native.Mathlib.Omega.{arith}
 use lib.Pow.{pow-mono}
-use lib.Dec.{eqb, ltb, leb}
+use lib.Dec.{eqb, ltb}
 use lib.ListN.{length, getD, take, drop}
 use lib.Seq.{take-at, getD-take}
 use borrow.Author.Tests.{eq-eqb, ne-eqb, lt-ltb, le-ltb, le-leb, lt-leb}
-use Rattle.finite.specs.Tests.{pick, tabulate}
 use Rattle.finite.specs.Sets.{has}
 use Rattle.finite.specs.Maps.{repeats}
 use Rattle.finite.specs.Faults.{firstFault}
@@ -165,10 +164,6 @@ module _ (m s : ℕ) (t words : List ℕ) (room : ℕ) (r : DegreeTested m s t w
   enough l = r .passed ∙ fault-past _ 17 _ 0 (le-ltb _ _ l) ∙ fault-none 0
 
 -- ---- the part of the rule's tables
-
-pub rules-length : length ruleTables ≡ 56
-unfolding ruleTables tabulate
-rules-length = refl
 
 pub sets-least : (s : ℕ) → 3 ≤ s → 8 ≤ 2 ^ s
 sets-least s h = pow-mono h

@@ -1,13 +1,12 @@
 -- One variable more, and a share chosen for it: the products of the variables below v + 1 on top of p are those of the variables below v on top of p with
 -- one share's bit of v, share by share, and no two shares give the same.
-use mathlib.Core.Path.{_≡_, refl, sym, ap, ap₂, _∙_}
-use mathlib.Core.Logic.{_≢_}
-use mathlib.Core.Bool.{Bool, true, false, not, _||_}
+use mathlib.Core.Path.{_≡_, sym, ap, ap₂, _∙_}
+use mathlib.Core.Bool.{Bool, true, false, not}
 use Prim.Native.Nat.{ℕ, suc, _+_, _-_, _*_, _/_, _%_, _^_, _≤_, _<_}
-use native.Mathlib.Nat.{mod-lt, div-add-mod, div-lt-iff-lt-mul, mul-comm, div-eq-of-lt}
+use native.Mathlib.Nat.{mod-lt, div-add-mod, div-lt-iff-lt-mul, mul-comm}
 use native.Mathlib.Decide.{decLt, ℕ-discrete}
 use native.Mathlib.Omega.{arith}
-use lib.Pow.{pow-pos, pow-lt, pow-add, shl-shr, high}
+use lib.Pow.{pow-pos, pow-lt}
 use lib.Dec.{eqb, ltb}
 use lib.Bits.{bitOr, or-lt}
 use borrow.Author.Tests.{eqb-true, eqb-false, eq-eqb, ne-eqb, not-true, lt-ltb, le-ltb}

@@ -3,10 +3,10 @@
 use mathlib.Core.Path.{_≡_, refl, sym, ap, ap₂, _∙_}
 use mathlib.Core.Bool.{Bool, true, false, _&&_}
 use Prim.Native.Nat.{ℕ, zero, suc, _+_, _*_, _/_, _%_, _^_, _<_}
-use native.Mathlib.Nat.{mul-suc, add-comm, mod-lt, mod-eq-of-lt, mul-zero}
+use native.Mathlib.Nat.{mul-suc, add-comm, mod-lt, mul-zero}
 use native.Mathlib.Omega.{arith}
 use lib.Arith.{lt-one}
-use lib.Pow.{pow-add, high}
+use lib.Pow.{pow-add}
 use lib.Dec.{eqb}
 use lib.Bits.{bitXor, xor-shr, xor-mod, xor-self, and-zero-r, xor-lt, xor-zero-r}
 use borrow.Author.Tests.{eqb-true, eq-eqb}
@@ -20,6 +20,7 @@ use Rattle.finite.proofs.Elements.{subset-low, subset-split}
 use Rattle.anf.specs.NormalForm.{subsetSum}
 use Rattle.anf.proofs.Transform.{subsetSum-ext, subsetSum-none, subsetSum-low, subsetSum-top, subsetSum-zero}
 use Rattle.threshold.specs.Sharing.{share, sum}
+use Rattle.threshold.proofs.Sharing.{share-top}
 use Rattle.producer.specs.Direct.{isProduct}
 use Rattle.producer.proofs.Products.{product-more, product-low, product-none}
 
@@ -84,11 +85,6 @@ split-sum (suc n) u a b l = go (split-sum n) (top-cases n u l)
 
 pub pow-blocks : (m s : ℕ) → 2 ^ (m * suc s) ≡ 2 ^ m * 2 ^ (m * s)
 pow-blocks m s = ap (λ (x : ℕ). 2 ^ x) (mul-suc m s ∙ add-comm (m * s) m) ∙ pow-add 2 m (m * s)
-
--- the top share of a number made of blocks
-share-top : (m s t r : ℕ) → t < 2 ^ m → r < 2 ^ (m * s) → share m s (t * 2 ^ (m * s) + r) ≡ t
-unfolding share
-share-top m s t r lt lr = ap (λ (x : ℕ). x % 2 ^ m) (high t (m * s) lr) ∙ mod-eq-of-lt lt
 
 pub product-blocks : (m s u t r : ℕ) → t < 2 ^ m → r < 2 ^ (m * s)
     → isProduct m (suc s) u (t * 2 ^ (m * s) + r) ≡ (subset t u && isProduct m s (bitXor u t) r)

@@ -4,17 +4,19 @@ use mathlib.Core.Path.{_≡_, refl, sym, ap, ap₂, _∙_}
 use mathlib.Core.Logic.{_⊎_, inl, inr}
 use mathlib.Core.Bool.{Bool, true, false, _&&_, _||_}
 use mathlib.Core.List.{List, [], _∷_, _++_, append-nil}
-use Prim.Native.Nat.{ℕ, zero, suc, _+_, _-_, _*_, _^_, _≤_, _<_}
+use Prim.Native.Nat.{ℕ, zero, suc, _+_, _-_, _*_, _/_, _%_, _^_, _≤_, _<_}
 use native.Mathlib.Nat.{not-suc-le-zero, zero-add}
+use native.Mathlib.Numerals.{add-one}
 use native.Mathlib.Omega.{arith}
 use lib.Pow.{pow-pos}
 use lib.Dec.{eqb, leb}
 use lib.Bits.{bitOr}
-use lib.ListN.{length, getD, take, drop}
+use lib.ListN.{length, getD, set, take, drop}
+use lib.Seq.{take-suc, take-suc-set, take-all}
 use borrow.Author.Tests.{eqb-true, eq-eqb, ne-eqb, lt-ltb, le-ltb, le-leb}
 use Rattle.finite.specs.Tests.{pick, implies, all, any, first, tabulate}
 use Rattle.finite.specs.Sets.{has}
-use Rattle.finite.proofs.Testing.{true-or-false, not-true-false, clash, below, pick-true, pick-false, and-intro, and-left, and-right, or-none, any-at, any-some, all-at, implies-at}
+use Rattle.finite.proofs.Testing.{true-or-false, not-true-false, clash, below, pick-true, pick-false, and-intro, and-left, and-right, or-none, any-at, any-some, all-at, implies-at, tabulate-at}
 use Rattle.finite.proofs.Elements.{has-none}
 use Rattle.anf.specs.Terms.{before, passing}
 use Rattle.anf.proofs.Terms.{Rising}
@@ -22,7 +24,7 @@ use Rattle.anf.proofs.Passing.{passing-rising, passing-congr}
 use Rattle.design.specs.Limits.{greatestTerms}
 use Rattle.design.proofs.Limits.{bounds}
 use Rattle.producer.specs.Direct.{isProduct, chosen, componentFor, stands, directList}
-use Rattle.producer.specs.inside.Expanding.{joined, ending, emitted, inserted, insertedAll, brought, ruleTables, Follows, Expands, Gathers}
+use Rattle.producer.specs.inside.Expanding.{joined, ending, emitted, inserted, insertedAll, brought, ruleTables, ruleRows, Follows, Expands, Gathers}
 use Rattle.producer.proofs.Products.{product-term}
 use Rattle.producer.proofs.Placement.{chosen-lt}
 use Rattle.producer.proofs.Formed.{list-size}
@@ -306,6 +308,28 @@ tables-tested : all 6 (λ s. implies (leb 3 s) (eqb (length (take (2 ^ s) (drop 
     && all (2 ^ s) (λ J. eqb (getD (take (2 ^ s) (drop (2 ^ s - 8) ruleTables)) J 0) (componentFor s J)))) ≡ true
 unfolding all ruleTables componentFor first any has tabulate
 tables-tested = refl
+
+pub rules-length : length ruleTables ≡ 56
+unfolding ruleTables tabulate
+rules-length = refl
+
+rows-at : (i : ℕ) → i < 56 → getD (getD ruleRows (i / 8) []) (i % 8) 0 ≡ getD ruleTables i 0
+unfolding ruleRows
+rows-at i h =
+    ap (λ (l : List ℕ). getD l (i % 8) 0) (tabulate-at 7 (λ r. tabulate 8 (λ c. getD ruleTables (8 * r + c) 0)) (i / 8) [] (omega arith))
+    ∙ tabulate-at 8 (λ c. getD ruleTables (8 * (i / 8) + c) 0) (i % 8) 0 (omega arith)
+    ∙ ap (λ (k : ℕ). getD ruleTables k 0) (omega arith)
+
+-- the first i entries are copied from the rows
+module _ (tables : List ℕ) (i : ℕ) (l : length tables ≡ 56) (e : take i tables ≡ take i ruleTables) where
+  pub tables-more : i < 56 → (rows : List (List ℕ)) → rows ≡ ruleRows → take (i + 1) (set tables i (getD (getD rows (i / 8) []) (i % 8) 0)) ≡ take (i + 1) ruleTables
+  tables-more h rows er =
+      rw (er, rows-at i h, add-one)
+      (take-suc-set tables i (getD ruleTables i 0) (omega arith)
+      ∙ ap (λ (x : List ℕ). x ++ (getD ruleTables i 0 ∷ [])) e ∙ sym (take-suc ruleTables i 0 (omega (arith, rules-length))))
+
+  pub tables-all : i ≤ 56 → 56 ≤ i → tables ≡ ruleTables
+  tables-all a b = sym (take-all i tables (omega arith)) ∙ e ∙ take-all i ruleTables (omega (arith, rules-length))
 
 -- the part of them for s shares
 pub rule-follows : (s : ℕ) → 3 ≤ s → s ≤ 5 → Follows s (take (2 ^ s) (drop (2 ^ s - 8) ruleTables))

@@ -3,7 +3,7 @@
 use mathlib.Core.Path.{_≡_, sym, ap, _∙_}
 use mathlib.Core.Bool.{Bool, true, false, not}
 use mathlib.Core.List.{List}
-use Prim.Native.Nat.{ℕ, _+_, _-_, _*_, _^_, _≤_, _<_}
+use Prim.Native.Nat.{ℕ, _+_, _-_, _^_, _≤_, _<_}
 use native.Mathlib.Omega.{arith}
 use lib.Pow.{pow-mono}
 use lib.ListN.{length, getD, take, drop, length-take}
@@ -27,8 +27,9 @@ use Rattle.producer.specs.Direct.{directLists}
 use Rattle.producer.specs.Producing.{produced}
 use Rattle.producer.specs.inside.Expanding.{Gathers, TableTested, DegreeTested, ruleTables, oneStageFile}
 use Rattle.design.specs.declared.Produced.{Produced}
+use Rattle.producer.proofs.Gathering.{rules-length}
 use Rattle.producer.proofs.Answering.{Answered, refuses, succeeds, reason-head, head-within, reason-size, reason-entry, reason-repeat, table-tested, reason-degree}
-use Rattle.producer.proofs.Answering.{found-degree, found-ready, file-is, ready-gathers, short, enough, rules-length, sets-least, sets-most, rule-part}
+use Rattle.producer.proofs.Answering.{found-degree, found-ready, file-is, ready-gathers, short, enough, sets-least, sets-most, rule-part}
 
 -- ---- `head_reason` and `produce`: h is the head's answer, k its number
 

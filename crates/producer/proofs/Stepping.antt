@@ -23,7 +23,8 @@ use Rattle.design.proofs.Limits.{bounds}
 use Rattle.producer.specs.Direct.{directList}
 use Rattle.producer.specs.inside.Expanding.{joined, ending, emitted, inserted, insertedAll, Grown, brought, Highest, Expands, Gathers}
 use Rattle.producer.proofs.Inserting.{going, going-on, going-end}
-use Rattle.producer.proofs.Emitting.{onward, variable-lt, fewer, inserted-one, inserted-none, ending-here, ending-other, emitted-end, emitted-each-set, expands-share, bit-place, turn-count, turn-list}
+use Rattle.producer.proofs.Emitting.{inserted-one, inserted-none, ending-here, ending-other, emitted-end, turn-count, turn-list}
+use Rattle.producer.proofs.Emitting.{onward, variable-lt, fewer, emitted-each-set, expands-share, bit-place}
 use Rattle.producer.proofs.Gathering.{term-asks, all-terms, few-terms}
 
 -- ---- `settle`: x is the term at i, b whether t stands before it

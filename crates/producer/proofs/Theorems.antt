@@ -2,7 +2,7 @@
 -- and what is produced reads as the direct sharing, whose stage is correct and non-complete.
 use mathlib.Core.Path.{_≡_, refl, sym, _∙_, subst}
 use mathlib.Core.Logic.{_↔_, ⊎-elim, _≢_}
-use mathlib.Core.Bool.{Bool, true, false}
+use mathlib.Core.Bool.{true, false}
 use mathlib.Core.List.{List, [], _∷_}
 use Prim.Native.Nat.{ℕ, _^_, _≤_, _<_}
 use native.Mathlib.Decide.{decLt}

@@ -1,4 +1,4 @@
--- Bench designs: what producing answers and leaves.
+-- "Bench designs": what producing answers and leaves.
 use Prim.Native.Nat.{ℕ}
 use mathlib.Core.List.{List, [], _∷_, _++_}
 use Rattle.finite.specs.Tests.{tabulate}
@@ -24,7 +24,13 @@ no m s t room reason =
 -- the 51 bytes of 1 0 with three shares: lists {0, 2}, {4}, {1}
 abbrev pub file51 : List ℕ
 file51 =
-    3 ∷ 0 ∷ 1 ∷ 0 ∷ 1 ∷ 3 ∷ 1 ∷ 2 ∷ 0 ∷ 2 ∷ 0 ∷ 1 ∷ 0 ∷ 2 ∷ 0 ∷ 2 ∷ 0 ∷ 1 ∷ 0 ∷ 8 ∷ 0 ∷ 3 ∷ 0 ∷ 0 ∷ 0 ∷ 0 ∷ 0 ∷ 2 ∷ 0 ∷ 0 ∷ 0 ∷ 4 ∷ 0 ∷ 3 ∷ 0 ∷ 4 ∷ 0 ∷ 0 ∷ 0 ∷ 4 ∷ 0 ∷ 3 ∷ 0 ∷ 1 ∷ 0 ∷ 0 ∷ 0 ∷ 0 ∷ 0 ∷ 4 ∷ 0 ∷ []
+    3 ∷ 0 ∷ 1 ∷ 0 ∷ 1 ∷ 3 ∷ 1 ∷
+    2 ∷ 0 ∷ 2 ∷ 0 ∷ 1 ∷ 0 ∷
+    2 ∷ 0 ∷ 2 ∷ 0 ∷ 1 ∷ 0 ∷
+    8 ∷ 0 ∷ 3 ∷ 0 ∷ 0 ∷ 0 ∷ 0 ∷ 0 ∷ 2 ∷ 0 ∷ 0 ∷ 0 ∷
+    4 ∷ 0 ∷ 3 ∷ 0 ∷ 4 ∷ 0 ∷ 0 ∷ 0 ∷
+    4 ∷ 0 ∷ 3 ∷ 0 ∷ 1 ∷ 0 ∷ 0 ∷ 0 ∷
+    0 ∷ 0 ∷ 4 ∷ 0 ∷ []
 
 abbrev pub rows : List ProducingRow
 rows =

@@ -1,4 +1,4 @@
--- The direct sharing of a box.
+-- "The direct sharing" of a box.
 use Prim.Native.Nat.{ℕ, _+_, _*_, _/_, _%_, _^_}
 use mathlib.Core.Path.{_≡_}
 use mathlib.Core.Bool.{Bool, false, not, _&&_}
@@ -49,13 +49,13 @@ directStage m s t = record { table = t; lists = directLists m s (subsetSum m (en
 unfoldable pub directSharing : ℕ → ℕ → List ℕ → Design
 directSharing m s t = record { m = m; s = s; k = 1; box = t; stages = directStage m s t ∷ [] }
 
--- some component functions, whatever they are, share the table correctly and non-completely with s shares
+-- "Terms of threshold implementation": some component functions, whatever they are, share the table correctly and non-completely with s shares
 pub record Shareable (m s : ℕ) (t : List ℕ) : Type 0 where
   pub F : ℕ → ℕ → ℕ
   pub correct : Correct m s F t
   pub nonComplete : NonComplete m s F
 
--- a permutation table within the limits
+-- "What the library covers": a permutation table within the limits
 pub record Box (m s : ℕ) (t : List ℕ) : Type 0 where
   pub limits : broken m s 1 ≡ false
   pub table : TableFits m t

@@ -10,73 +10,40 @@ ghost use Rattle.finite.specs.Sets.{has as hasElement};
 ghost use Rattle.anf.specs.Terms.{before};
 ghost use Rattle.design.specs.Limits.{greatestTerms};
 ghost use Rattle.producer.specs.Direct.{directList};
-ghost use Rattle.producer.specs.inside.Expanding.{ending, emitted, inserted, Grown, brought, ruleTables, Highest, Expands, Gathers};
+ghost use Rattle.producer.specs.inside.Expanding.{ending, emitted, inserted, Grown, brought, ruleRows, ruleTables, Highest, Expands, Gathers};
 
-// The component to which a product goes, by the set of its chosen shares: for 3 shares, for 4, for 5. Of all shares there is none.
-const RULES: [u8; 56] = [
-    0,
-    2,
-    0,
-    2,
-    1,
-    1,
-    0,
-    3,
-    0,
-    3,
-    0,
-    3,
-    1,
-    1,
-    0,
-    3,
-    2,
-    2,
-    0,
-    2,
-    1,
-    1,
-    0,
-    4,
-    0,
-    4,
-    0,
-    4,
-    1,
-    1,
-    0,
-    4,
-    2,
-    2,
-    0,
-    2,
-    1,
-    1,
-    0,
-    4,
-    3,
-    3,
-    0,
-    3,
-    1,
-    1,
-    0,
-    3,
-    2,
-    2,
-    0,
-    2,
-    1,
-    1,
-    0,
-    5,
+// The component to which a product goes, by the set of its chosen shares, eight sets a row. Of all shares there is none.
+const RULES: [[u8; 8]; 7] = [
+    // three shares
+    [0, 2, 0, 2, 1, 1, 0, 3],
+    // four
+    [0, 3, 0, 3, 1, 1, 0, 3],
+    [2, 2, 0, 2, 1, 1, 0, 4],
+    // five
+    [0, 4, 0, 4, 1, 1, 0, 4],
+    [2, 2, 0, 2, 1, 1, 0, 4],
+    [3, 3, 0, 3, 1, 1, 0, 3],
+    [2, 2, 0, 2, 1, 1, 0, 5],
 ];
 
-// The tables of the rule for 3, 4 and 5 shares.
+fn rule_rows() -> [[u8; 8]; 7]
+    ensures { λ r. ⌜ r ≡ ruleRows ⌝ }
+{
+    RULES
+}
+
+// The tables of the rule for 3, 4 and 5 shares, one behind the other.
 pub fn rules() -> [u8; 56]
     ensures { λ r. ⌜ r ≡ ruleTables ⌝ }
 {
-    RULES
+    let rows = rule_rows();
+    let mut tables = [0u8; 56];
+    let mut i: usize = 0;
+    while i < 56 {
+        tables[i] = rows[i / 8][i % 8];
+        i += 1;
+    }
+    tables
 }
 
 // Whether the set x has the element i.

@@ -8,16 +8,15 @@ use design::record_size;
 ghost use mathlib.Core.Path.{_≡_};
 ghost use mathlib.Core.Bool.{false};
 ghost use Prim.Native.Nat.{_+_, _^_, _≤_};
-ghost use lib.ListN.{length, getD};
+ghost use lib.ListN.{length};
 ghost use Rattle.design.specs.Limits.{broken};
 ghost use Rattle.design.specs.inside.Overwriting.{overwrite, listRecords};
-ghost use Rattle.producer.specs.Direct.{directLists};
-ghost use Rattle.producer.specs.inside.Expanding.{Gathers, tableRecords, oneStageFile};
+ghost use Rattle.producer.specs.inside.Expanding.{Gathers, tableRecords, wordsLists, wordsFile};
 
 // How many bytes the lists take.
 fn lists_size(rule: &[u8], m: usize, s: usize, words: &[u8], list: &mut [u32]) -> usize
     requires { ⌜ Gathers (now rule) m s (length (now words)) (length (now list)) ⌝ }
-    ensures { λ r. ⌜ (r ≡ length (listRecords (directLists m s (λ u. getD (now (words .entry)) u 0)))) × (r ≤ 327760) ⌝ }
+    ensures { λ r. ⌜ (r ≡ length (listRecords (wordsLists m s (now (words .entry))))) × (r ≤ 327760) ⌝ }
 {
     let n = m * s;
     let mut size: usize = 0;
@@ -40,7 +39,7 @@ pub fn file_size(
     list: &mut [u32],
 ) -> usize
     requires { ⌜ Gathers (now rule) m s (length (now words)) (length (now list)) × (length (now table) ≡ 2 ^ m) ⌝ }
-    ensures { λ r. ⌜ r ≡ length (oneStageFile m s (now (table .entry)) (directLists m s (λ u. getD (now (words .entry)) u 0))) ⌝ }
+    ensures { λ r. ⌜ r ≡ length (wordsFile m s (now (table .entry)) (now (words .entry))) ⌝ }
 {
     let tables = record_size(3) + 2 * record_size(table.len());
     tables + lists_size(rule, m, s, words, list) + record_size(0)
@@ -67,9 +66,9 @@ fn put_lists(
     out: &mut [u8],
     from: usize,
 ) -> usize
-    requires { ⌜ Gathers (now rule) m s (length (now words)) (length (now list)) × (from + length (listRecords (directLists m s (λ u. getD (now words) u 0))) ≤ length (now out)) ⌝ }
-    ensures { λ r. ⌜ r ≡ from + length (listRecords (directLists m s (λ u. getD (now (words .entry)) u 0))) ⌝ }
-    ensures { λ _. ⌜ now (out .exit) ≡ overwrite (now (out .entry)) from (listRecords (directLists m s (λ u. getD (now (words .entry)) u 0))) ⌝ }
+    requires { ⌜ Gathers (now rule) m s (length (now words)) (length (now list)) × (from + length (listRecords (wordsLists m s (now words))) ≤ length (now out)) ⌝ }
+    ensures { λ r. ⌜ r ≡ from + length (listRecords (wordsLists m s (now (words .entry)))) ⌝ }
+    ensures { λ _. ⌜ now (out .exit) ≡ overwrite (now (out .entry)) from (listRecords (wordsLists m s (now (words .entry)))) ⌝ }
 {
     let n = m * s;
     let mut at = from;
@@ -92,8 +91,8 @@ pub fn put_file(
     list: &mut [u32],
     out: &mut [u8],
 )
-    requires { ⌜ Gathers (now rule) m s (length (now words)) (length (now list)) × (length (now table) ≡ 2 ^ m) × (length (oneStageFile m s (now table) (directLists m s (λ u. getD (now words) u 0))) ≤ length (now out)) ⌝ }
-    ensures { λ _. ⌜ now (out .exit) ≡ overwrite (now (out .entry)) 0 (oneStageFile m s (now (table .entry)) (directLists m s (λ u. getD (now (words .entry)) u 0))) ⌝ }
+    requires { ⌜ Gathers (now rule) m s (length (now words)) (length (now list)) × (length (now table) ≡ 2 ^ m) × (length (wordsFile m s (now table) (now words)) ≤ length (now out)) ⌝ }
+    ensures { λ _. ⌜ now (out .exit) ≡ overwrite (now (out .entry)) 0 (wordsFile m s (now (table .entry)) (now (words .entry))) ⌝ }
 {
     let lists_at = put_tables(m, s, table, out);
     let end_at = put_lists(rule, m, s, words, list, out, lists_at);

@@ -14,7 +14,7 @@ use Rattle.anf.specs.Tables.{entriesBelow, entry}
 use Rattle.anf.specs.Terms.{before}
 use Rattle.design.specs.Limits.{greatestTerms, broken}
 use Rattle.design.specs.Encode.{aRecord, encode}
-use Rattle.producer.specs.Direct.{componentFor}
+use Rattle.producer.specs.Direct.{componentFor, directLists}
 use Rattle.producer.specs.Producing.{produced, producedReason}
 
 -- f 0, f 1, .. f (n - 1), joined
@@ -54,6 +54,10 @@ brought rule m s c b word u = pick (has word b) (emitted rule m s u c m 0 0) []
 unfoldable pub ruleTables : List ℕ
 ruleTables = tabulate 8 (componentFor 3) ++ (tabulate 16 (componentFor 4) ++ tabulate 32 (componentFor 5))
 
+-- the same, eight a row
+unfoldable pub ruleRows : List (List ℕ)
+ruleRows = tabulate 7 (λ r. tabulate 8 (λ c. getD ruleTables (8 * r + c) 0))
+
 -- a table over the sets of s shares that says where a product goes
 pub record Follows (s : ℕ) (rule : List ℕ) : Type 0 where
   pub size : length rule ≡ 2 ^ s
@@ -86,6 +90,13 @@ tableRecords m s t = aRecord 1 (m ∷ s ∷ 1 ∷ []) ++ (aRecord 2 t ++ aRecord
 -- the file of one stage with G equal to S
 unfoldable pub oneStageFile : ℕ → ℕ → List ℕ → List (List ℕ) → List ℕ
 oneStageFile m s t ls = encode (record { m = m; s = s; k = 1; box = t; stages = record { table = t; lists = ls } ∷ [] })
+
+-- the lists that coefficient words give, and the file with them
+abbrev pub wordsLists : ℕ → ℕ → List ℕ → List (List ℕ)
+wordsLists m s words = directLists m s (λ u. getD words u 0)
+
+abbrev pub wordsFile : ℕ → ℕ → List ℕ → List ℕ → List ℕ
+wordsFile m s t words = oneStageFile m s t (wordsLists m s words)
 
 -- every test before that of the degree has passed
 pub record TableTested (m s : ℕ) (t : List ℕ) (room : ℕ) : Type 0 where

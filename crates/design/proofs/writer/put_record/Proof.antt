@@ -1,5 +1,4 @@
 -- `put_record` meets its contract: a head, and the body behind it.
-use native.Mathlib.Omega.{arith}
 use borrow.Author.Needs.{needs}
 use Rattle.design.proofs.Putting.{head-room, body-room, record-put, record-end}
 use Rattle.design.proofs.writer.put_record.Statement.{statement}
