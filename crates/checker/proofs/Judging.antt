@@ -20,7 +20,8 @@ use Rattle.design.proofs.Answered.{described}
 use Rattle.design.proofs.TermBytes.{terms-of-bytes}
 use Rattle.threshold.specs.inside.Variables.{variables}
 use Rattle.threshold.specs.Stages.{readsOwn}
-use Rattle.threshold.proofs.Dependence.{own-place, reads-names}
+use Rattle.threshold.proofs.Sharing.{place-lt}
+use Rattle.threshold.proofs.Dependence.{reads-names}
 use Rattle.checker.specs.Marks.{named}
 
 -- ---- names, term by term
@@ -132,7 +133,7 @@ module _ (f : List ℕ) (l : Layout) (j : ℕ) (k : j < l .head .s) where
 
   module _ (b : ℕ) (c : b < l .head .m) (d : Describes f l) where
     pub place-fits : l .head .m * j + b < 2 ^ 64
-    place-fits = let p = own-place (l .head .m) (l .head .s) j b k c in let q = described d .bounds .bits in omega arith
+    place-fits = let p = place-lt (l .head .m) (l .head .s) j b k c in let q = described d .bounds .bits in omega arith
 
     pub row-fits : l .head .m * j < 2 ^ 64
     row-fits = let p = place-fits in omega arith

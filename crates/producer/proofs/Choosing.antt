@@ -15,19 +15,11 @@ use Rattle.finite.specs.Sets.{has}
 use Rattle.finite.proofs.Testing.{bool-ext, not-true-false, clash, all-at, all-intro, any-at, any-some, any-congr, none-any, pick-true, pick-false}
 use Rattle.finite.proofs.Counting.{count-one, count-some, count-unique, count-none, count-has}
 use Rattle.finite.proofs.Elements.{has-none, sets-eq, some-element, has-with, has-with-other}
-use Rattle.threshold.proofs.Dependence.{own-place}
-use Rattle.threshold.proofs.Sharing.{share-lt, share-has, place-div, place-mod}
+use Rattle.threshold.proofs.Sharing.{place-lt, place-eq, share-lt, share-has}
 use Rattle.threshold.specs.Sharing.{share}
 use Rattle.producer.specs.Direct.{isProduct, chosen}
 use Rattle.producer.proofs.Products.{product-at, at-product}
 use Rattle.producer.proofs.Placement.{chosen-lt, chosen-has}
-
--- a place tells the share and the variable
-pub place-eq : (m i w j v : ℕ) → w < m → v < m → m * i + w ≡ m * j + v → (i ≡ j) × (w ≡ v)
-place-eq m i w j v lw lv e = (
-  sym (place-div m i w lw) ∙ ap (λ (x : ℕ). x / m) e ∙ place-div m j v lv,
-  sym (place-mod m i w lw) ∙ ap (λ (x : ℕ). x % m) e ∙ place-mod m j v lv,
-)
 
 -- ---- the chosen shares
 
@@ -214,4 +206,4 @@ module _ (m s u v p : ℕ) (lv : v < m) (clean : Clean m s (suc v) p) where
       has-with-other p (m * j + v) (m * i + w) (λ z. omega (arith, place-eq m i w j v (omega arith) lv z .1)) ∙ clean w (omega arith) i li
 
   pub with-lt : (j : ℕ) → j < s → p < 2 ^ (m * s) → withShareOf j < 2 ^ (m * s)
-  with-lt j lj l = or-lt (m * s) p (2 ^ (m * j + v)) l (pow-lt (own-place m s j v lj lv))
+  with-lt j lj l = or-lt (m * s) p (2 ^ (m * j + v)) l (pow-lt (place-lt m s j v lj lv))

@@ -18,7 +18,7 @@ use Rattle.finite.specs.Sets.{has}
 use Rattle.finite.proofs.Testing.{below, pick-true, pick-false}
 use Rattle.design.specs.Limits.{greatestShareBits}
 use Rattle.design.proofs.Limits.{bounds}
-use Rattle.threshold.proofs.Dependence.{own-place}
+use Rattle.threshold.proofs.Sharing.{place-lt}
 use Rattle.producer.specs.inside.Expanding.{joined, ending, emitted, inserted, insertedAll, Highest, Expands}
 
 -- ---- joined lists
@@ -161,7 +161,7 @@ module _ (rule : List ℕ) (m s c : ℕ) where
 
     -- the bit that a share of a variable has in a product
     pub bit-place : (J size n j : ℕ) (ts : List ℕ) → Expands rule m s u J size n ts → j < s → m * j + v < greatestShareBits
-    bit-place J size n j ts x i = omega (arith, bounds m s 1 (x .limits) .bits, own-place m s j v i variable-lt)
+    bit-place J size n j ts x i = omega (arith, bounds m s 1 (x .limits) .bits, place-lt m s j v i variable-lt)
 
 -- the empty set: what stands so far is a product
 pub emitted-end : (rule : List ℕ) (m s u c p J : ℕ) → u ≡ 0 → emitted rule m s u c m p J ≡ ending rule c p J

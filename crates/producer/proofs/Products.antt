@@ -14,9 +14,8 @@ use Rattle.finite.specs.Sets.{subset, has}
 use Rattle.finite.proofs.Testing.{bool-ext, all-at, all-intro, all-congr, all-and}
 use Rattle.finite.proofs.Counting.{count-congr, bit-inj}
 use Rattle.finite.proofs.Elements.{has-none, sets-eq, unlike, has-xor, subset-all, has-low}
-use Rattle.threshold.proofs.Dependence.{own-place}
 use Rattle.threshold.specs.Sharing.{share}
-use Rattle.threshold.proofs.Sharing.{share-lt, share-has}
+use Rattle.threshold.proofs.Sharing.{place-lt, share-lt, share-has}
 use Rattle.producer.specs.Direct.{isProduct}
 
 pub product-at : (m s u p : ℕ) → isProduct m s u p ≡ true → (v : ℕ) → v < m → count s (λ j. has p (m * j + v)) ≡ bit (has u v)
@@ -59,7 +58,7 @@ pub product-low : (m s u a r : ℕ) → r < 2 ^ (m * s) → isProduct m s u (a *
 unfolding isProduct
 product-low m s u a r l =
     all-congr m _ _ (λ v k. ap (λ (c : ℕ). eqb c (bit (has u v)))
-    (count-congr s (λ j. has (a * 2 ^ (m * s) + r) (m * j + v)) (λ j. has r (m * j + v)) (λ j h. has-low (m * s) a r (m * j + v) l (own-place m s j v h k))))
+    (count-congr s (λ j. has (a * 2 ^ (m * s) + r) (m * j + v)) (λ j. has r (m * j + v)) (λ j h. has-low (m * s) a r (m * j + v) l (place-lt m s j v h k))))
 
 -- with no share at all only the empty term has a product
 pub product-none : (m u p : ℕ) → u < 2 ^ m → isProduct m 0 u p ≡ eqb u 0

@@ -27,9 +27,9 @@ use Rattle.design.specs.Design.{TableFits}
 use Rattle.threshold.specs.Sharing.{share, sum, withShare}
 use Rattle.threshold.specs.inside.Variables.{variables}
 use Rattle.threshold.specs.Stages.{output, component, Correct, NonComplete}
-use Rattle.threshold.proofs.Sharing.{share-lt, sum-lt, with-own, setting-with, share-bit, place-div, place-mod}
+use Rattle.threshold.proofs.Sharing.{place-lt, share-lt, sum-lt, with-own, setting-with, share-bit, place-div, place-mod}
 use Rattle.threshold.proofs.Output.{output-bit, component-eq}
-use Rattle.threshold.proofs.Dependence.{clear-variables, setting-clear, own-place}
+use Rattle.threshold.proofs.Dependence.{clear-variables, setting-clear}
 use Rattle.producer.specs.Direct.{isProduct, chosen, componentFor, stands, directList, directLists, directStage}
 use Rattle.producer.proofs.Products.{product-term}
 use Rattle.producer.proofs.Expansion.{expansion}
@@ -45,7 +45,7 @@ lists-length m s t = tabulate-length (m * s) (λ i. directList m s (subsetSum m 
 pub list-at : (m s : ℕ) (t : List ℕ) (c b : ℕ) → c < s → b < m → getD (directStage m s t .lists) (m * c + b) [] ≡ directList m s (subsetSum m (entry t)) c b
 unfolding directStage directLists
 list-at m s t c b lc lb =
-    tabulate-at (m * s) (λ i. directList m s (subsetSum m (entry t)) (i / m) (i % m)) (m * c + b) [] (own-place m s c b lc lb)
+    tabulate-at (m * s) (λ i. directList m s (subsetSum m (entry t)) (i / m) (i % m)) (m * c + b) [] (place-lt m s c b lc lb)
     ∙ ap₂ (directList m s (subsetSum m (entry t))) (place-div m c b lb) (place-mod m c b lb)
 
 pub list-value : (m s : ℕ) (f : ℕ → ℕ) (c b σ : ℕ)

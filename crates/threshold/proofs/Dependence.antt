@@ -5,7 +5,7 @@ use mathlib.Core.Logic.{⊎-elim}
 use mathlib.Core.Bool.{Bool, true}
 use mathlib.Core.List.{[]}
 use Prim.Native.Nat.{ℕ, _+_, _-_, _*_, _/_, _^_, _<_}
-use native.Mathlib.Nat.{mul-le-mul-left, mul-suc, add-mul}
+use native.Mathlib.Nat.{add-mul}
 use native.Mathlib.Omega.{arith}
 use lib.Pow.{pow-pos, high-ones}
 use lib.Bits.{bitAnd, and-high}
@@ -18,7 +18,7 @@ use Rattle.design.specs.Design.{Stage}
 use Rattle.threshold.specs.Sharing.{share, setting, putShare, withShare}
 use Rattle.threshold.specs.inside.Variables.{variables}
 use Rattle.threshold.specs.Stages.{component, readsOwn}
-use Rattle.threshold.proofs.Sharing.{share-lt, put-share-setting, setting-with, with-other}
+use Rattle.threshold.proofs.Sharing.{place-lt, share-lt, put-share-setting, setting-with, with-other}
 use Rattle.threshold.proofs.Output.{component-eq, component-bit}
 use Rattle.threshold.proofs.Tests.{reads-some, reads-at}
 
@@ -43,10 +43,6 @@ module _ (w j : ℕ) where
   pub setting-clear : (x y : ℕ) → setting w j x ≡ setting w j y → clear x (variables w j) ≡ clear y (variables w j)
   setting-clear x y e = clear-variables x ∙ ap (putShare w j 0) e ∙ sym (clear-variables y)
 
--- list b of component j
-pub own-place : (w s j b : ℕ) → j < s → b < w → w * j + b < w * s
-own-place w s j b hj hb = omega (arith, mul-suc w j, mul-le-mul-left w hj)
-
 pub reads-names : (w s : ℕ) (g : Stage) (j : ℕ) → j < s → ((l : ℕ) → l < w * s → TermList (w * s) (getD (g .lists) l []))
     → readsOwn w s g j ≡ any w (λ b. names (variables w j) (getD (g .lists) (w * j + b) []))
 reads-names w s g j hj fits = bool-ext (readsOwn w s g j) (any w named) to from
@@ -66,7 +62,7 @@ reads-names w s g j hj fits = bool-ext (readsOwn w s g j) (any w named) to from
     from : any w named ≡ true → readsOwn w s g j ≡ true
     from e =
         let b = any-some w named e in
-        let d = names-depends (w * s) (variables w j) (getD (g .lists) (w * j + b .0) []) (fits (w * j + b .0) (own-place w s j (b .0) hj (b .1))) (b .2) in
+        let d = names-depends (w * s) (variables w j) (getD (g .lists) (w * j + b .0) []) (fits (w * j + b .0) (place-lt w s j (b .0) hj (b .1))) (b .2) in
         let same = with-other w j (d .x) (d .y) (clear-setting w j (d .x) (d .y) (d .alone)) in
         reads-at w s g j (d .x) (d .x-below) (share w j (d .y)) (share-lt w j (d .y))
         (λ e. d .changes (component-bit (d .x) (d .y) w j (g .lists) (sym e ∙ ap (component w (g .lists) j) same) (b .0) (b .1)))

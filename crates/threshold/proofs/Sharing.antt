@@ -224,24 +224,32 @@ sum-step w (suc left) total rest t p e =
     rw (and-mask rest w, sub-one (suc left)) (xor-assoc total (rest % 2 ^ w) (sum w left (rest / 2 ^ w)) ∙ ap (bitXor total) (sym (sum-suc w left rest)) ∙ e)
 sum-step w zero total rest t p e = absurd (not-suc-le-zero p)
 
--- ---- the bits of shares
+-- ---- the bits of shares: bit b of share j stands at w × j + b
 
--- bit i of share j
-pub share-bit : (m j p i : ℕ) → i < m → share m j p / 2 ^ i % 2 ≡ p / 2 ^ (m * j + i) % 2
+pub place-lt : (w s j b : ℕ) → j < s → b < w → w * j + b < w * s
+place-lt w s j b hj hb = omega (arith, mul-suc w j, mul-le-mul-left w hj)
+
+-- the place tells the share and the bit
+pub place-div : (w j b : ℕ) → b < w → (w * j + b) / w ≡ j
+place-div w j b h = ap (λ (x : ℕ). (x + b) / w) (mul-comm w j) ∙ digits-div j h
+
+pub place-mod : (w j b : ℕ) → b < w → (w * j + b) % w ≡ b
+place-mod w j b h = ap (λ (x : ℕ). (x + b) % w) (mul-comm w j) ∙ digits-mod j h
+
+pub place-eq : (w i a j b : ℕ) → a < w → b < w → w * i + a ≡ w * j + b → (i ≡ j) × (a ≡ b)
+place-eq w i a j b ha hb e = (
+  sym (place-div w i a ha) ∙ ap (λ (x : ℕ). x / w) e ∙ place-div w j b hb,
+  sym (place-mod w i a ha) ∙ ap (λ (x : ℕ). x % w) e ∙ place-mod w j b hb,
+)
+
+pub share-bit : (w j σ b : ℕ) → b < w → share w j σ / 2 ^ b % 2 ≡ σ / 2 ^ (w * j + b) % 2
 unfolding share
-share-bit m j p i h =
-    let d : m ≡ m - suc i + 1 + i = omega arith in
-    ap (λ (y : ℕ). p / 2 ^ (m * j) % 2 ^ y / 2 ^ i % 2) d
-    ∙ ap (λ (y : ℕ). y % 2) (field (p / 2 ^ (m * j)) (m - suc i + 1) i)
-    ∙ mod-mod-pow (p / 2 ^ (m * j) / 2 ^ i) (m - suc i) 1
-    ∙ ap (λ (y : ℕ). y % 2) (shr-shr p (m * j) i)
+share-bit w j σ b h =
+    let d : w ≡ w - suc b + 1 + b = omega arith in
+    ap (λ (y : ℕ). σ / 2 ^ (w * j) % 2 ^ y / 2 ^ b % 2) d
+    ∙ ap (λ (y : ℕ). y % 2) (field (σ / 2 ^ (w * j)) (w - suc b + 1) b)
+    ∙ mod-mod-pow (σ / 2 ^ (w * j) / 2 ^ b) (w - suc b) 1
+    ∙ ap (λ (y : ℕ). y % 2) (shr-shr σ (w * j) b)
 
-pub share-has : (m j p i : ℕ) → i < m → has (share m j p) i ≡ has p (m * j + i)
-share-has m j p i h = has-congr (share m j p) p i (m * j + i) (share-bit m j p i h)
-
--- the place of a bit tells the share and the bit
-pub place-div : (m j i : ℕ) → i < m → (m * j + i) / m ≡ j
-place-div m j i h = ap (λ (x : ℕ). (x + i) / m) (mul-comm m j) ∙ digits-div j h
-
-pub place-mod : (m j i : ℕ) → i < m → (m * j + i) % m ≡ i
-place-mod m j i h = ap (λ (x : ℕ). (x + i) % m) (mul-comm m j) ∙ digits-mod j h
+pub share-has : (w j σ b : ℕ) → b < w → has (share w j σ) b ≡ has σ (w * j + b)
+share-has w j σ b h = has-congr (share w j σ) σ b (w * j + b) (share-bit w j σ b h)

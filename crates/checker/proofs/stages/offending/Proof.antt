@@ -4,7 +4,7 @@ use Prim.Native.Nat.{_-_, _≤_}
 use native.Mathlib.Omega.{arith}
 use borrow.Author.Needs.{needs}
 use Rattle.design.proofs.Found.{width-high}
-use Rattle.threshold.proofs.Dependence.{own-place}
+use Rattle.threshold.proofs.Sharing.{place-lt}
 use Rattle.checker.proofs.Judging.{NoTerm, NoList, NoComponent, no-term-yet, no-list-yet, no-component-yet, no-term-more, no-list-more, no-component-more, offending-found, offending-none, few-shares, place-fits, row-fits}
 use Rattle.checker.proofs.stages.offending.Statement.{statement}
 use Rattle.checker.proofs.stages.offending.Tie as tie
@@ -42,7 +42,7 @@ offending-spec =
     (λ c. search (arith, no-list-yet))
     (λ c. search row-fits)
     (λ c. search place-fits)
-    (λ c κs. search own-place)
+    (λ c κs. search place-lt)
     (λ c κs. search needs)
     (λ c. search (arith, no-term-yet))
     (λ c κs. search needs)
