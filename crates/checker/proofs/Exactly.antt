@@ -18,7 +18,7 @@ use Rattle.anf.specs.Tables.{Permutation, entry}
 use Rattle.design.specs.Design.{Design, WellFormed, stageOf}
 use Rattle.design.specs.Reading.{Reading, refused, means, reading}
 use Rattle.design.proofs.Theorems.{read-formed}
-use Rattle.design.proofs.Reasons.{reason-range}
+use Rattle.design.proofs.Reasons.{refused-for, reason-range}
 use Rattle.threshold.specs.Stages.{correct, uniform}
 use Rattle.threshold.proofs.Tests.{correct↔, ignores↔, uniform↔}
 use Rattle.checker.specs.Verdict.{answer, workspaceFor, chainIsBox, firstRepeating, stageVerdict, judged, judgedReading, verdict}
@@ -96,14 +96,14 @@ unfolding verdict judgedReading
 explained f n = go (reading f) refl
   where
     go : (r : Reading) → reading f ≡ r → Explained f n (judgedReading r n)
-    go (refused r p) e = refusal r p e
+    go (refused r p) e = refusal r p e (refused-for f r p e)
     go (means d) e = judged-explained f n d (read-formed f d e) e
 
 passed-accepted : (f : List ℕ) (n : ℕ) (d : Design) → Passed f n d (d .k) → Accepted f n d
 passed-accepted f n d p = record { reads = p .ready .reads; box = p .ready .box; room = p .ready .room; chain = p .chain; stages = p .before }
 
 accepts : (f : List ℕ) (n : ℕ) (v : Verdict) → Explained f n v → v .reason ≡ 0 → (d : Design) × (v ≡ answer 0 (d .k) 0) × Accepted f n d
-accepts f n v (refusal r p e) z = absurd (omega (arith, reason-range f r p e))
+accepts f n v (refusal r p e w) z = absurd (omega (arith, reason-range f r p e))
 accepts f n v (fault-8 d e h) z = absurd (omega arith)
 accepts f n v (fault-9 d e b h) z = absurd (omega arith)
 accepts f n v (fault-10 d e h) z = absurd (omega arith)
@@ -126,7 +126,7 @@ module _ (f : List ℕ) (n : ℕ) (d : Design) (a : Accepted f n d) where
       (λ x y lx ly e. a .box x y lx ly (sym (a .chain x lx) ∙ e ∙ a .chain y ly)) t (omega (arith, wf .count))
 
   no-fault : (v : Verdict) → Explained f n v → v ≡ answer 0 (d .k) 0
-  no-fault v (refusal r p e) = let q : means d ≡ refused r p = sym (a .reads) ∙ e in let z : _≡_ {A = ℕ} 0 1 = cc in absurd (omega arith)
+  no-fault v (refusal r p e w) = let q : means d ≡ refused r p = sym (a .reads) ∙ e in let z : _≡_ {A = ℕ} 0 1 = cc in absurd (omega arith)
   no-fault v (fault-8 e r h) = absurd (subst (λ (x : Design). ¬ Permutation (x .m) (x .box)) (sym (same e r)) h (a .box))
   no-fault v (fault-9 e r b h) = absurd (omega (arith, a .room, subst (λ (x : Design). n < workspaceFor x) (sym (same e r)) h))
   no-fault v (fault-10 e r h) = absurd (subst (λ (x : Design). ¬ ChainIsBox x) (sym (same e (r .reads))) h (a .chain))

@@ -63,7 +63,7 @@ pub record Passed (f : List ℕ) (n : ℕ) (d : Design) (t : ℕ) : Type 0 where
 
 -- one case for each outcome, in the published order
 pub data Explained (f : List ℕ) (n : ℕ) : Verdict → Type 0 where
-  refusal : (r p : ℕ) → reading f ≡ refused r p → Explained f n (answer r p 0)
+  refusal : (r p : ℕ) → reading f ≡ refused r p → RefusedFor f r p → Explained f n (answer r p 0)
   fault-8 : (d : Design) → reading f ≡ means d → ¬ Permutation (d .m) (d .box) → Explained f n (answer 8 0 0)
   fault-9 : (d : Design) → reading f ≡ means d → Permutation (d .m) (d .box) → n < workspaceFor d → Explained f n (answer 9 0 0)
   fault-10 : (d : Design) → Ready f n d → ¬ ChainIsBox d → Explained f n (answer 10 0 0)

@@ -13,7 +13,6 @@ use lib.ListN.{length, getD, take, drop}
 use lib.Seq.{getD-take, getD-drop}
 use lib.Arith.{digits-lt, digits-mod, digits-div}
 use lib.Dec.{ltb, eqb, lit<}
-use Prim.Native.String.{past}
 use Rattle.finite.specs.Tests.{pick}
 use Rattle.finite.proofs.Testing.{tabulate-at}
 use Rattle.design.specs.Limits.{greatestWidth, greatestShares, greatestShareBits, greatestTerms}

@@ -5,11 +5,10 @@ use mathlib.Core.Bool.{Bool, true, false}
 use native.Mathlib.Omega.{arith}
 use native.Mathlib.Nat.{mul-le-mul}
 use borrow.Author.Tests.{ltb-false}
-use mathlib.Core.List.{[], List, _∷_}
+use mathlib.Core.List.{[], _∷_}
 use Rattle.finite.specs.Tests.{pick}
-use Rattle.finite.specs.Faults.{firstFault}
 use Rattle.finite.proofs.Testing.{or-false}
-use Rattle.design.specs.Limits.{greatestWidth, leastShares, greatestShares, greatestShareBits, greatestStages, broken, checked, headAnswer, headFault}
+use Rattle.design.specs.Limits.{greatestWidth, leastShares, greatestShares, greatestShareBits, greatestStages, broken, checked, headAnswer}
 use Rattle.design.specs.declared.Checked.the-variants.{Good, Beyond}
 
 pub record Bounds (m s k : ℕ) : Type 0 where
@@ -51,21 +50,19 @@ bounds m s k e =
       k-high = ltb-false _ _ (a .1);
     }
 
--- ---- the paper's number for the answer of the head's constructor
+-- ---- the answer of the head's constructor in the paper's numbers
 
 module _ (m s k : ℕ) where
-  pub head-number : (fs : List (Bool × ℕ)) → firstFault (headFault (checked m s k) ∷ fs) 0 ≡ pick (broken m s k) 4 (firstFault fs 0)
-  unfolding firstFault
-  head-number fs = go (broken m s k)
+  pub head-answer : headAnswer (checked m s k) ≡ pick (broken m s k) (4, []) (0, m ∷ s ∷ k ∷ [])
+  head-answer = go (broken m s k)
     where
-      go : (b : Bool) → pick (headFault (pick b Beyond (Good (record { m = m; s = s; k = k }))) .0) (headFault (pick b Beyond (Good (record { m = m; s = s; k = k }))) .1) (firstFault fs 0)
-          ≡ pick b 4 (firstFault fs 0)
+      go : (b : Bool) → headAnswer (pick b Beyond (Good (record { m = m; s = s; k = k }))) ≡ pick b (4, []) (0, m ∷ s ∷ k ∷ [])
       go true = refl
       go false = refl
 
-  -- and its values: m, s, k within the limits, none beyond them
-  pub head-good : broken m s k ≡ false → headAnswer (checked m s k) ≡ (0, m ∷ s ∷ k ∷ [])
-  head-good e = rw e refl
-
-  pub head-beyond : broken m s k ≡ true → headAnswer (checked m s k) ≡ (4, [])
-  head-beyond e = rw e refl
+  pub head-number : headAnswer (checked m s k) .0 ≡ pick (broken m s k) 4 0
+  head-number = go (broken m s k)
+    where
+      go : (b : Bool) → headAnswer (pick b Beyond (Good (record { m = m; s = s; k = k }))) .0 ≡ pick b 4 0
+      go true = refl
+      go false = refl

@@ -3,8 +3,8 @@
 use Prim.Native.Nat.{ℕ, zero, suc, _+_, _*_, _-_, _/_, _%_, _^_, _≤_, _<_}
 use mathlib.Core.Path.{_≡_, refl, sym, ap, _∙_, subst}
 use mathlib.Core.List.{List}
-use mathlib.Core.Bool.{Bool, true, false, not, _||_, true≢false}
-use mathlib.Core.Logic.{_⊎_, inl, inr, ⊎-elim}
+use mathlib.Core.Bool.{Bool, true, false, _||_, true≢false}
+use mathlib.Core.Logic.{⊎-elim}
 use native.Mathlib.Omega.{arith}
 use borrow.Author.Tests.{eqb-false, eqb-true, ltb-true, ltb-false, eq-eqb, le-ltb, lt-ltb, ne-eqb, not-false, not-true, le-leb}
 use lib.ListN.{length}
@@ -15,9 +15,9 @@ use Rattle.finite.specs.Tests.{pick, all}
 use Rattle.finite.proofs.Testing.{all-at, all-not, clash, true-or-false, below, and-intro, or-right, and-right, and-left}
 use Rattle.finite.proofs.Faults.{fault-cases}
 use Rattle.anf.specs.Terms.{before}
-use Rattle.design.specs.Limits.{broken, checked, headFault, greatestTerms}
-use Rattle.design.specs.Bytes.{byte, u16At, u32At}
-use Rattle.design.specs.Reading.{refused, means, lastOf, headOf, kindDue, sizeDue, lengthDue, frameFault, entryFits, termFits, previous, bodyFault, faultAt, meaning, place, walk, reading}
+use Rattle.design.specs.Limits.{greatestTerms, broken}
+use Rattle.design.specs.Bytes.{u16At}
+use Rattle.design.specs.Reading.{refused, means, lastOf, headOf, kindDue, sizeDue, lengthDue, entryFits, termFits, previous, bodyFault, faultAt, meaning, place, walk, reading}
 use Rattle.design.specs.Refused.{WithinLimits, LengthFits, TermFits, RecordStands, RecordFits, FitBefore, Reached, termAt, RefusedFor, head-cut, kind-wrong, length-wrong, body-cut, limit-broken, entry-high, term-wrong, bytes-follow}
 use Rattle.design.specs.declared.Head.{Head}
 use Rattle.design.proofs.Limits.{bounds}

@@ -1,7 +1,7 @@
 -- Laws of one record: its entries, its terms, its head and length, its body, and what a record without fault says.
 use Prim.Native.Nat.{ℕ, zero, suc, _+_, _*_, _-_, _/_, _%_, _^_, _≤_, _<_}
 use mathlib.Core.Path.{_≡_, refl, _∙_, sym}
-use mathlib.Core.List.{List, []}
+use mathlib.Core.List.{List}
 use mathlib.Core.Bool.{Bool, true, false, _||_, not}
 use native.Mathlib.Omega.{arith}
 use native.Mathlib.Numerals.{add-one}
@@ -76,6 +76,10 @@ framed f at kind size e =
     let l : u16At f at ≤ length f - at - 4 = ltb-false _ _ (d .0) in
     record { head = omega arith; kind = eqb-true _ _ (not-false _ (b .0)); size = not-false _ (c .0); rest = omega arith }
 
+pick-twice : (b : Bool) (x y z : ℕ) → pick b (pick b x y) z ≡ pick b x z
+pick-twice true x y z = refl
+pick-twice false x y z = refl
+
 pick-not : (b : Bool) (x y : ℕ) → pick (not b) x y ≡ pick b y x
 pick-not true x y = refl
 pick-not false x y = refl
@@ -92,7 +96,7 @@ pick-missed false r p e = refl
 module _ (f : List ℕ) (h : Head) (kind start n : ℕ) where
   pub body-1 : kind ≡ 1 → bodyFault f h kind start n ≡ pick (broken (h .m) (h .s) (h .k)) 4 0
   unfolding bodyFault firstFault
-  body-1 e = rw e (head-number (h .m) (h .s) (h .k) [])
+  body-1 e = rw (e, head-number (h .m) (h .s) (h .k)) (pick-twice (broken (h .m) (h .s) (h .k)) 4 0 0)
 
   pub body-2 : kind ≡ 2 → bodyFault f h kind start n ≡ pick (all n (entryFits f start (2 ^ h .m))) 0 5
   unfolding bodyFault firstFault

@@ -2,13 +2,12 @@
 use Prim.Native.Nat.{ℕ, suc, _+_, _-_, _≤_, _<_}
 use mathlib.Core.Path.{_≡_, refl, sym, ap, _∙_}
 use mathlib.Core.List.{List}
-use mathlib.Core.Bool.{Bool, true, false}
+use mathlib.Core.Bool.{true, false}
 use native.Mathlib.Omega.{arith}
 use native.Mathlib.Nat.{sub-zero}
 use native.Mathlib.Numerals.{add-one}
 use borrow.Author.Tests.{eqb-true, lt-ltb, le-ltb, ne-eqb}
 use lib.ListN.{length}
-use lib.Dec.{eqb}
 use Rattle.finite.specs.Tests.{pick}
 use Rattle.design.specs.Bytes.{byte, u16At}
 use Rattle.design.specs.Limits.{broken}

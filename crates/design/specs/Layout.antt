@@ -4,12 +4,10 @@ use mathlib.Core.Path.{_≡_}
 use mathlib.Core.Bool.{false}
 use mathlib.Core.List.{List, _++_}
 use lib.ListN.{getD, drop, replicate}
-use Rattle.finite.specs.Tests.{pick, tabulate}
+use Rattle.finite.specs.Tests.{tabulate}
 use Rattle.design.specs.Limits.{greatestRecords, broken}
 use Rattle.design.specs.Reading.{Reading, refused, means, headOf, lastOf, place, meaning, reading}
 use Rattle.design.specs.declared.Head.{Head}
-use Rattle.design.specs.declared.Checked.{Checked}
-use Rattle.design.specs.declared.Checked.the-variants.{Good, Beyond}
 use Rattle.design.specs.declared.Layout.{Layout}
 
 -- a head within the limits

@@ -1,11 +1,10 @@
 -- The limits of the head and of a list.
 use Prim.Native.Nat.{ℕ, _+_, _*_}
-use mathlib.Core.Bool.{Bool, _||_, not}
+use mathlib.Core.Bool.{Bool, _||_}
 use mathlib.Core.List.{List, [], _∷_}
-use lib.Dec.{ltb, eqb}
+use lib.Dec.{ltb}
 use Rattle.finite.specs.Tests.{pick}
 use Rattle.anf.specs.Transform as transform
-use Rattle.design.specs.declared.Head.{Head}
 use Rattle.design.specs.declared.Checked.{Checked}
 use Rattle.design.specs.declared.Checked.the-variants.{Good, Beyond}
 
@@ -45,7 +44,3 @@ checked m s k = pick (broken m s k) Beyond (Good (record { m = m; s = s; k = k }
 abbrev pub headAnswer : Checked → ℕ × List ℕ
 headAnswer (Good h) = (0, h .m ∷ h .s ∷ h .k ∷ [])
 headAnswer Beyond = (4, [])
-
--- in a published order of faults: whether it is one, and its number
-abbrev pub headFault : Checked → Bool × ℕ
-headFault c = (not (eqb (headAnswer c .0) 0), headAnswer c .0)

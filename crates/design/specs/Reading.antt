@@ -7,7 +7,7 @@ use lib.Dec.{ltb, leb, eqb}
 use Rattle.finite.specs.Tests.{pick, all, tabulate}
 use Rattle.finite.specs.Faults.{firstFault}
 use Rattle.anf.specs.Terms.{before}
-use Rattle.design.specs.Limits.{greatestTerms, checked, headFault}
+use Rattle.design.specs.Limits.{greatestTerms, broken, checked, headAnswer}
 use Rattle.design.specs.Design.{Stage, Design}
 use Rattle.design.specs.Bytes.{byte, u16At, u32At}
 use Rattle.design.specs.declared.Head.{Head}
@@ -83,8 +83,8 @@ onlyOf one kind fault = (eqb kind one && fault .0, fault .1)
 -- of its body of n bytes from start
 abbrev pub bodyFaults : List ℕ → Head → ℕ → ℕ → ℕ → List (Bool × ℕ)
 bodyFaults f h kind start n =
-    -- a head number breaks a limit
-    onlyOf 1 kind (headFault (checked (h .m) (h .s) (h .k))) ∷
+    -- a head number breaks a limit: the number of the head's answer
+    onlyOf 1 kind (broken (h .m) (h .s) (h .k), headAnswer (checked (h .m) (h .s) (h .k)) .0) ∷
     -- a table entry is 2^m or more
     onlyOf 2 kind (not (all n (entryFits f start (2 ^ h .m))), 5) ∷
     -- a term names a variable beyond m × s or does not rise

@@ -1,7 +1,7 @@
 -- "Reading": what a refusal says of the file, as propositions. Records are numbered from 0 on; record i starts at `place f i`.
 use Prim.Native.Nat.{ℕ, _+_, _*_, _/_, _%_, _^_, _≤_, _<_}
 use mathlib.Core.Path.{_≡_}
-use mathlib.Core.Bool.{true, false}
+use mathlib.Core.Bool.{true}
 use mathlib.Core.List.{List}
 use lib.ListN.{length}
 use Rattle.anf.specs.Terms.{before}

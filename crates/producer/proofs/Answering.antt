@@ -21,11 +21,10 @@ use Rattle.anf.specs.inside.Words.{wordsDegree}
 use Rattle.anf.specs.Transform.{transformAfter, transformed}
 use Rattle.anf.proofs.Passing.{passing-congr}
 use Rattle.anf.proofs.Answers.{input-answer, transformed-degree}
-use Rattle.design.specs.Limits.{greatestTerms, broken}
+use Rattle.design.specs.Limits.{greatestTerms, broken, checked, headAnswer}
 use Rattle.design.specs.Writing.{noFile}
 use Rattle.design.specs.inside.Overwriting.{overwrite}
-use Rattle.design.specs.Layout.{checked, refusalOf}
-use Rattle.design.proofs.Limits.{bounds, refusal-checked}
+use Rattle.design.proofs.Limits.{bounds, head-number}
 use Rattle.design.proofs.Producing.{refusal-answer, refusal-after, success-answer, success-written}
 use Rattle.producer.specs.Direct.{isProduct, chosen, componentFor, stands, directList, directLists, directStage, directSharing}
 use Rattle.producer.specs.Producing.{produced, producedReason, producing, outputAfter}
@@ -58,14 +57,14 @@ module _ (m s : ℕ) (t out : List ℕ) where
 
 -- ---- the reasons in their order
 
-pub head-within : (m s : ℕ) → refusalOf (checked m s 1) ≡ 0 → broken m s 1 ≡ false
-head-within m s e = not-true-false (broken m s 1) (λ b. let z : 4 ≡ 0 = sym (refusal-checked m s 1 ∙ pick-true (broken m s 1) 4 0 b) ∙ e in omega arith)
+pub head-within : (m s : ℕ) → headAnswer (checked m s 1) .0 ≡ 0 → broken m s 1 ≡ false
+head-within m s e = not-true-false (broken m s 1) (λ b. let z : 4 ≡ 0 = sym (head-number m s 1 ∙ pick-true (broken m s 1) 4 0 b) ∙ e in omega arith)
 
-head-broken : (m s : ℕ) → refusalOf (checked m s 1) ≢ 0 → broken m s 1 ≡ true
-head-broken m s n = ⊎-elim (λ t. t) (λ f. absurd (n (refusal-checked m s 1 ∙ pick-false (broken m s 1) 4 0 f))) (true-or-false (broken m s 1))
+head-broken : (m s : ℕ) → headAnswer (checked m s 1) .0 ≢ 0 → broken m s 1 ≡ true
+head-broken m s n = ⊎-elim (λ t. t) (λ f. absurd (n (head-number m s 1 ∙ pick-false (broken m s 1) 4 0 f))) (true-or-false (broken m s 1))
 
 module _ (m s : ℕ) (t : List ℕ) (room : ℕ) where
-  pub reason-head : refusalOf (checked m s 1) ≢ 0 → producedReason m s t room ≡ refusalOf (checked m s 1)
+  pub reason-head : headAnswer (checked m s 1) .0 ≢ 0 → producedReason m s t room ≡ headAnswer (checked m s 1) .0
   unfolding producedReason
   reason-head n = fault-here _ _ _ 0 (head-broken m s n)
 

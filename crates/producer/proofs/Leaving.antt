@@ -15,10 +15,9 @@ use Rattle.anf.specs.Tables.{entriesBelow, entry}
 use Rattle.anf.specs.inside.Words.{wordsDegree}
 use Rattle.anf.specs.Transform.{transformAfter}
 use Rattle.anf.specs.NormalForm.{degree}
-use Rattle.design.specs.Limits.{greatestTerms, broken}
+use Rattle.design.specs.Limits.{greatestTerms, broken, checked, headAnswer}
 use Rattle.design.specs.Writing.{noFile}
 use Rattle.design.specs.inside.Overwriting.{overwrite}
-use Rattle.design.specs.Layout.{checked, refusalOf}
 use Rattle.design.specs.declared.Head.{Head}
 use Rattle.design.specs.declared.Checked.{Checked}
 use Rattle.design.specs.declared.Checked.the-variants.{Good, Beyond}
@@ -34,13 +33,13 @@ use Rattle.producer.proofs.Answering.{found-degree, found-ready, file-i
 -- ---- `head_reason` and `produce`: h is the head's answer, k its number
 
 module _ (m s : ℕ) (h : Checked) (eh : h ≡ checked m s 1) where
-  pub good-number : (g : Head) → h ≡ Good g → 0 ≡ refusalOf (checked m s 1)
-  good-number g e = sym (ap refusalOf (sym eh ∙ e))
+  pub good-number : (g : Head) → h ≡ Good g → 0 ≡ headAnswer (checked m s 1) .0
+  good-number g e = sym (ap (λ (c : Checked). headAnswer c .0) (sym eh ∙ e))
 
-  pub beyond-number : h ≡ Beyond → 4 ≡ refusalOf (checked m s 1)
-  beyond-number e = sym (ap refusalOf (sym eh ∙ e))
+  pub beyond-number : h ≡ Beyond → 4 ≡ headAnswer (checked m s 1) .0
+  beyond-number e = sym (ap (λ (c : Checked). headAnswer c .0) (sym eh ∙ e))
 
-module _ (m s k : ℕ) (ek : k ≡ refusalOf (checked m s 1)) where
+module _ (m s k : ℕ) (ek : k ≡ headAnswer (checked m s 1) .0) where
   pub beyond : (k ≡ 0 → ⊥) → (t out : List ℕ) (r : Produced) → r ≡ noFile k → Answered m s t out r out
   beyond n t out r er = refuses m s t out r k er (omega arith) (reason-head m s t (length out) (λ e. n (ek ∙ e)) ∙ sym ek)
 

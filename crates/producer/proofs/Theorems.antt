@@ -20,7 +20,7 @@ use Rattle.anf.proofs.Tables.{entries-at, entries-intro}
 use Rattle.design.specs.Limits.{broken}
 use Rattle.design.specs.Design.{WellFormed}
 use Rattle.design.specs.Reading.{means, reading}
-use Rattle.design.proofs.Limits.{bounds, refusal-checked}
+use Rattle.design.proofs.Limits.{bounds, head-number}
 use Rattle.design.proofs.Theorems.{encode-reads}
 use Rattle.design.proofs.Producing.{success-file, success-rest, refusal-after}
 use Rattle.threshold.specs.Stages.{component, correct, nonComplete, Correct, NonComplete}
@@ -49,7 +49,7 @@ module _ (m s : ℕ) (t : List ℕ) (room : ℕ) where
   past-degree n away e =
       let b : broken m s 1 ≡ false =
       not-true-false (broken m s 1) (λ z. away 4 (omega arith) (omega arith)
-      (sym (refusal-checked m s 1 ∙ pick-true (broken m s 1) 4 0 z) ∙ sym (fault-here (broken m s 1) _ _ 0 z) ∙ e)) in
+      (sym (head-number m s 1 ∙ pick-true (broken m s 1) 4 0 z) ∙ sym (fault-here (broken m s 1) _ _ 0 z) ∙ e)) in
       let size = other-fault _ 3 _ 0 n (away 3 (omega arith) (omega arith)) (sym (fault-past (broken m s 1) _ _ 0 b) ∙ e) in
       let below = other-fault _ 5 _ 0 n (away 5 (omega arith) (omega arith)) (size .1) in
       let once = other-fault _ 8 _ 0 n (away 8 (omega arith) (omega arith)) (below .1) in

@@ -10,8 +10,7 @@ use Rattle.finite.specs.Tests.{pick, total}
 use Rattle.finite.specs.Faults.{firstFault}
 use Rattle.anf.specs.Tables.{entry, entriesBelow}
 use Rattle.anf.specs.NormalForm.{degree}
-use Rattle.design.specs.Limits.{broken}
-use Rattle.design.specs.Layout.{checked, refusalOf}
+use Rattle.design.specs.Limits.{broken, checked, headAnswer}
 use Rattle.design.specs.Encode.{encode}
 use Rattle.design.specs.Writing.{writingAnswer, writingAfter}
 use Rattle.producer.specs.Direct.{directSharing}
@@ -25,7 +24,7 @@ produced m s t = encode (directSharing m s t)
 abbrev pub producedFaults : ℕ → ℕ → List ℕ → ℕ → List (Bool × ℕ)
 producedFaults m s t room =
     -- m or s breaks a limit: 4, the number of the head's answer
-    (broken m s 1, refusalOf (checked m s 1)) ∷
+    (broken m s 1, headAnswer (checked m s 1) .0) ∷
     -- the table has not 2^m bytes
     (not (eqb (length t) (2 ^ m)), 3) ∷
     -- an entry is 2^m or more

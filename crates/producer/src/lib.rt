@@ -18,8 +18,7 @@ use finite::power;
 ghost use mathlib.Core.Path.{_≡_};
 ghost use mathlib.Core.Bool.{false};
 ghost use lib.ListN.{length};
-ghost use Rattle.design.specs.Limits.{broken};
-ghost use Rattle.design.specs.Layout.{checked, refusalOf};
+ghost use Rattle.design.specs.Limits.{broken, checked, headAnswer};
 ghost use Rattle.producer.specs.Producing.{producing, outputAfter};
 ghost use Rattle.producer.specs.inside.Expanding.{Gathers, TableTested, DegreeTested};
 
@@ -98,7 +97,7 @@ fn produce_within(m: usize, s: usize, table: &[u8], output: &mut [u8]) -> Produc
 
 // The number of the refusal of a head with one stage, or 0.
 fn head_reason(m: usize, s: usize) -> usize
-    ensures { λ r. ⌜ r ≡ refusalOf (checked m s 1) ⌝ }
+    ensures { λ r. ⌜ r ≡ headAnswer (checked m s 1) .0 ⌝ }
 {
     match Head::new(m, s, 1) {
         Checked::Good(_) => 0,
