@@ -5,6 +5,7 @@ use mathlib.Core.List.{List}
 use Rattle.anf.specs.Tables.{entry, Permutation}
 use Rattle.design.specs.Design.{Design, stageOf}
 use Rattle.design.specs.Reading.{refused, means, reading}
+use Rattle.design.specs.Refused.{RefusedFor}
 use Rattle.threshold.specs.Stages.{component, output, Correct, Ignores, NonComplete, Uniform}
 use Rattle.threshold.specs.Chain.{chained}
 use Rattle.checker.specs.Verdict.{answer, workspaceFor}

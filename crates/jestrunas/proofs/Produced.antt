@@ -1,13 +1,13 @@
 -- What the producer writes, judged: accepted or 14, never another number, as its stage is correct and non-complete.
 -- Assumes nothing.
-use mathlib.Core.Path.{_≡_, refl, sym, ap, _∙_, subst}
+use mathlib.Core.Path.{_≡_, sym, ap, _∙_, subst}
 use mathlib.Core.Logic.{_⊎_, inl, inr}
-use mathlib.Core.List.{List, [], _∷_}
-use Prim.Native.Nat.{ℕ, _+_, _*_, _/_, _^_, _≤_, _<_}
+use mathlib.Core.List.{List}
+use Prim.Native.Nat.{ℕ, _+_, _≤_, _<_}
 use native.Mathlib.Omega.{arith}
 use Rattle.anf.specs.NormalForm.{degree}
 use Rattle.anf.specs.Tables.{entry, Permutation}
-use Rattle.design.specs.Design.{Design, Stage, stageOf}
+use Rattle.design.specs.Design.{Design}
 use Rattle.design.specs.Reading.{refused, means, reading}
 use Rattle.checker.specs.Verdict.{answer, workspaceFor, verdict}
 use Rattle.checker.specs.Accepted.{ChainIsBox, TablePermutes, CorrectAt, IgnoresOwn, Explained, refusal, fault-8, fault-9, fault-10, fault-11, fault-12, fault-13, fault-14, accepted}
@@ -35,7 +35,7 @@ module _ (m s n : ℕ) (t : List ℕ) (b : Box m s t) (low : degree m (entry t) 
 
   outcome : (v : Verdict) → Explained (produced m s t) n v → (v ≡ answer 0 1 0) ⊎ (v ≡ answer 14 1 0)
   unfolding directSharing directStage
-  outcome v (refusal r p e) = let q : means (directSharing m s t) ≡ refused r p = sym (sound .reads) ∙ e in let z : _≡_ {A = ℕ} 0 1 = cc in absurd (omega arith)
+  outcome v (refusal r p e why) = let q : means (directSharing m s t) ≡ refused r p = sym (sound .reads) ∙ e in let z : _≡_ {A = ℕ} 0 1 = cc in absurd (omega arith)
   outcome v (fault-8 e r h) = absurd (subst (λ (x : Design). ¬ Permutation (x .m) (x .box)) (same e r) h (λ x y lx ly q. b .injective x y lx ly q))
   outcome v (fault-9 e r p h) = absurd (omega (arith, room, subst (λ (x : Design). n < workspaceFor x) (same e r) h))
   outcome v (fault-10 e r h) = absurd (subst (λ (x : Design). ¬ ChainIsBox x) (same e (r .reads)) h (λ x l. sound .chain x))

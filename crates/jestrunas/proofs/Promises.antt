@@ -1,6 +1,5 @@
--- Every theorem that a customer relies on, stated in full and cited. Together with the contracts of src/lib.rt, whoever trusts the proof checker need read
--- only this file and the definitions in the crates' specs/. Lists of numbers stand for bytes; `sum` and `xorBelow` are XOR.
--- Assumes nothing.
+-- Every theorem that a customer relies on, stated in full and cited. Whoever trusts the proof checker reads this file, the contracts of src/lib.rt, and the
+-- definitions that they name: the crates' specs/, without specs/inside/. Lists of numbers stand for bytes; `sum` and `xorBelow` are XOR. Assumes nothing.
 use mathlib.Core.Path.{_≡_}
 use mathlib.Core.Logic.{_↔_, _⊎_, _≢_}
 use mathlib.Core.Bool.{Bool, true}
@@ -9,26 +8,30 @@ use Prim.Native.Nat.{ℕ, _^_, _≤_, _<_}
 use lib.Count.{ones}
 use lib.ListN.{length, getD, take, drop}
 use Rattle.finite.specs.Sums.{xorBelow}
+use Rattle.finite.specs.Tests.{tabulate}
 use Rattle.anf.specs.NormalForm.{subsetSum, degree}
-use Rattle.anf.specs.Terms.{valueAt, TermList, names, Depends}
+use Rattle.anf.specs.Terms.{valueAt, TermList, names, Depends, passing}
 use Rattle.anf.specs.Points.{Points, IgnoresPoint}
 use Rattle.anf.specs.Transform.{transformReason, transformAfter}
 use Rattle.anf.specs.Bench as bench-anf
-use Rattle.anf.specs.Tables.{entry}
+use Rattle.anf.specs.Tables.{entry, Permutation}
 use Rattle.anf.proofs.Transform.{subsetSum-twice}
 use Rattle.anf.proofs.Terms.{unique-terms, names-exactly}
 use Rattle.anf.proofs.Degree.{shares-bound}
 use Rattle.anf.proofs.Answers.{transform-back}
 use Rattle.anf.proofs.Bench as anf-bench
 use Rattle.design.specs.Bytes.{Bytes}
-use Rattle.design.specs.Design.{Design, WellFormed, SameMeaning}
+use Rattle.design.specs.Design.{Stage, Design, StageFits, WellFormed, SameMeaning, count}
 use Rattle.design.specs.Encode.{encode}
-use Rattle.design.specs.Reading.{means, reading}
+use Rattle.design.specs.Reading.{refused, means, reading}
+use Rattle.design.specs.Refused.{RefusedFor}
 use Rattle.design.specs.Bench as bench-design
 use Rattle.design.proofs.Theorems as design-theorems
+use Rattle.design.proofs.Reasons as reasons
 use Rattle.design.proofs.Bench as design-bench
-use Rattle.threshold.specs.Stages.{Correct, NonComplete, component}
+use Rattle.threshold.specs.Stages.{output, component, Correct, NonComplete, Uniform, CountedUniform}
 use Rattle.threshold.specs.Running.{running}
+use Rattle.threshold.proofs.Stages.{stage-uniform↔counted}
 use Rattle.checker.specs.Verdict.{answer, workspaceFor, verdict}
 use Rattle.checker.specs.Accepted.{Accepted, Explained}
 use Rattle.checker.specs.Assurance.{Assured, Blind}
@@ -36,10 +39,12 @@ use Rattle.checker.specs.Bench as bench-checker
 use Rattle.checker.proofs.Exactly as exactly
 use Rattle.checker.proofs.Assurance as assured
 use Rattle.checker.proofs.Bench as checker-bench
-use Rattle.producer.specs.Direct.{directStage, directSharing, Shareable, Box}
-use Rattle.producer.specs.Producing.{produced, producedReason, producing, outputAfter}
+use Rattle.producer.specs.Direct.{isProduct, chosen, componentFor, directStage, directSharing, Shareable, Box}
+use Rattle.producer.specs.Producing.{produced, producedReason, producing, outputAfter, producedMost}
 use Rattle.producer.specs.Bench as bench-producer
-use Rattle.producer.proofs.Theorems.{produced-sound, sixteen-exactly, output-file}
+use Rattle.producer.proofs.Theorems.{produced-sound, sixteen-exactly, output-file, output-rest, output-refused}
+use Rattle.producer.proofs.Counts.{products-count}
+use Rattle.producer.proofs.Room as producer-room
 use Rattle.producer.proofs.Bench as producer-bench
 use Rattle.jestrunas.proofs.Produced.{produced-verdict}
 
@@ -75,9 +80,23 @@ degree-limit = shares-bound
 pub file-exactly : (f : List ℕ) (d : Design) → Bytes f → (reading f ≡ means d) ↔ (WellFormed d × (f ≡ encode d))
 file-exactly = design-theorems.file-exactly
 
+-- A refusal has a reason of 1 to 7, and is explained: which record is at fault, that none before it is, and the first of its tests that fails.
+pub reason-range : (f : List ℕ) (r p : ℕ) → reading f ≡ refused r p → (1 ≤ r) × (r ≤ 7)
+reason-range = reasons.reason-range
+
+pub refused-for : (f : List ℕ) (r p : ℕ) → reading f ≡ refused r p → RefusedFor f r p
+refused-for = reasons.refused-for
+
 -- 6. One meaning, one file. Readable files with equal m, s, k, tables and component functions are equal byte for byte.
 pub one-meaning-one-file : (f g : List ℕ) (d e : Design) → Bytes f → Bytes g → reading f ≡ means d → reading g ≡ means e → SameMeaning d e → f ≡ g
 one-meaning-one-file = design-theorems.one-meaning-one-file
+
+-- ---- The terms of threshold implementation
+
+-- For permutations uniform agrees with the count in document 003.
+pub uniform-counted : (w s : ℕ) (g : Stage) → StageFits w s g → Permutation w (g .table) → Correct w s (component w (g .lists)) (g .table)
+    → Uniform w s (output (g .lists)) (g .table) ↔ CountedUniform w s (output (g .lists)) (g .table)
+uniform-counted = stage-uniform↔counted
 
 -- ---- The verdict
 
@@ -99,9 +118,30 @@ assurance = assured.assurance
 pub blind : (f : List ℕ) (n : ℕ) → verdict f n .reason ≡ 0 → (d : Design) × Assured f d × Blind d
 blind = assured.blind
 
--- ---- The producer, for a permutation table within the limits
+-- ---- The direct sharing
 
--- 9. Of degree below s: what is produced reads as the direct sharing, whose one stage is correct and non-complete.
+-- A term of degree d gives s^d products.
+pub products : (m s u : ℕ) → u < 2 ^ m → count (2 ^ (m * s)) (isProduct m s u) ≡ s ^ ones u
+products = products-count
+
+-- For three shares and a product xy (m is 2, x is bit 0, y is bit 1) component 1 gets x2y2, x3y2 and x2y3.
+pub product-xy : passing (2 ^ 6) (λ p. isProduct 2 3 3 p && eqb (componentFor 3 (chosen 2 3 p)) 0) ≡ 12 ∷ 24 ∷ 36 ∷ []
+product-xy = producer-bench.xy-first
+
+-- The rule as tables over the sets J, for three, four and five shares; components count from 0, and the set of all shares has none.
+pub rule-three : tabulate (2 ^ 3) (componentFor 3) ≡ 0 ∷ 2 ∷ 0 ∷ 2 ∷ 1 ∷ 1 ∷ 0 ∷ 3 ∷ []
+rule-three = producer-bench.rule-three
+
+pub rule-four : tabulate (2 ^ 4) (componentFor 4) ≡ 0 ∷ 3 ∷ 0 ∷ 3 ∷ 1 ∷ 1 ∷ 0 ∷ 3 ∷ 2 ∷ 2 ∷ 0 ∷ 2 ∷ 1 ∷ 1 ∷ 0 ∷ 4 ∷ []
+rule-four = producer-bench.rule-four
+
+pub rule-five : tabulate (2 ^ 5) (componentFor 5)
+    ≡ 0 ∷ 4 ∷ 0 ∷ 4 ∷ 1 ∷ 1 ∷ 0 ∷ 4 ∷ 2 ∷ 2 ∷ 0 ∷ 2 ∷ 1 ∷ 1 ∷ 0 ∷ 4 ∷ 3 ∷ 3 ∷ 0 ∷ 3 ∷ 1 ∷ 1 ∷ 0 ∷ 3 ∷ 2 ∷ 2 ∷ 0 ∷ 2 ∷ 1 ∷ 1 ∷ 0 ∷ 5 ∷ []
+rule-five = producer-bench.rule-five
+
+-- ---- Producing
+
+-- 9. For a permutation table within the limits, of degree below s: what is produced reads as the direct sharing, whose one stage is correct and non-complete.
 pub produced-reads : (m s : ℕ) (t : List ℕ) → Box m s t → degree m (entry t) < s
     → (reading (produced m s t) ≡ means (directSharing m s t))
     × Correct m s (component m (directStage m s t .lists)) t
@@ -117,10 +157,24 @@ produced-judged = produced-verdict
 pub refused-exactly : (m s : ℕ) (t : List ℕ) (room : ℕ) → Box m s t → (producedReason m s t room ≡ 16) ↔ (Shareable m s t → ⊥)
 refused-exactly = sixteen-exactly
 
--- On success the output starts with the file, which depends on m, s and the table alone.
+-- On success the output starts with the file, which depends on m, s and the table alone; the bytes past the file are untouched; and on a refusal all are.
 pub produced-file : (m s : ℕ) (t out : List ℕ) → producedReason m s t (length out) ≡ 0
     → take (length (produced m s t)) (outputAfter m s t out) ≡ produced m s t
 produced-file = output-file
+
+pub produced-rest : (m s : ℕ) (t out : List ℕ) → producedReason m s t (length out) ≡ 0
+    → drop (length (produced m s t)) (outputAfter m s t out) ≡ drop (length (produced m s t)) out
+produced-rest = output-rest
+
+pub refused-output : (m s : ℕ) (t out : List ℕ) → producedReason m s t (length out) ≢ 0 → outputAfter m s t out ≡ out
+refused-output = output-refused
+
+-- How much output is always enough: for m and s, and for all of them.
+pub produced-most : (m s : ℕ) (t : List ℕ) → Box m s t → degree m (entry t) < s → length (produced m s t) ≤ producedMost m s
+produced-most = producer-room.produced-most
+
+pub output-enough : (m s : ℕ) (t : List ℕ) (room : ℕ) → 20867 ≤ room → producedReason m s t room ≢ 17
+output-enough = producer-room.room-enough
 
 -- ---- 10. Bench. Every starred design of the papers answers as it must.
 
