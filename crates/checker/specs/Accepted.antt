@@ -4,6 +4,7 @@ use mathlib.Core.Path.{_≡_}
 use mathlib.Core.List.{List}
 use Rattle.anf.specs.Tables.{entry, Permutation}
 use Rattle.design.specs.Design.{Design, stageOf}
+use Rattle.design.specs.Refused.{RefusedFor}
 use Rattle.design.specs.Reading.{refused, means, reading}
 use Rattle.design.specs.Refused.{RefusedFor}
 use Rattle.threshold.specs.Stages.{component, output, Correct, Ignores, NonComplete, Uniform}

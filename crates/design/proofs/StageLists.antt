@@ -5,7 +5,7 @@ use mathlib.Core.List.{List, []}
 use native.Mathlib.Omega.{arith}
 use lib.Arith.{digits-lt}
 use lib.ListN.{length, getD, take, drop, length-take, length-drop}
-use lib.Seq.{ext-getD, getD-take, getD-drop, take-all}
+use lib.Seq.{ext-getD, getD-take, getD-drop, take-all, length-take-le}
 use Rattle.finite.proofs.Testing.{tabulate-length, tabulate-at}
 use Rattle.design.specs.Bytes.{Bytes, u16At, terms, termBytes}
 use Rattle.design.specs.Design.{stageOf, listOf}
@@ -13,9 +13,9 @@ use Rattle.design.specs.Reading.{headOf, lastOf, numberOf, place, meanin
 use Rattle.design.specs.Layout.{Describes}
 use Rattle.design.specs.StageLists.{bodyAt, Inside, AllInside, listsOf}
 use Rattle.design.specs.declared.Layout.{Layout}
-use Rattle.design.specs.Limits.{greatestRecords}
+use Rattle.design.specs.Limits.{greatestRecords, greatestTerms}
 use Rattle.design.proofs.Limits.{records}
-use Rattle.design.proofs.TermBytes.{terms-of-bytes}
+use Rattle.design.proofs.TermBytes.{terms-of-bytes, length-termBytes}
 use Rattle.design.proofs.Walking.{place-next}
 use Rattle.design.proofs.Answered.{described}
 use Rattle.design.proofs.Found.{number-low}
@@ -30,6 +30,10 @@ module _ (f starts : List ℕ) (first n : ℕ) where
   unfolding listsOf
   listsOf-at i h = tabulate-at n _ i [] h
 
+-- a body inside the file is no longer than a list may be
+pub body-short : (f b : List ℕ) (start next : ℕ) → next ≤ start + 4 + 4 * greatestTerms → b ≡ bodyAt f start next → length b ≤ 4 * greatestTerms
+body-short f b start next h e = omega (arith, ap length e, length-take (next - 4 - start) (drop start f))
+
 pub stages-length : (f : List ℕ) (y : Layout) → Describes f y → length (meaning f .stages) ≡ y .head .k
 stages-length f y d = let r = described d in r .formed .count ∙ sym (r .k)
 
@@ -37,6 +41,12 @@ pub lists-length : (f : List ℕ) (y : Layout) → Describes f y → (t : ℕ) �
 lists-length f y d t u =
     let r = described d in
     r .formed .stage t (subst (λ (k : ℕ). t < k) (r .k) u) .count ∙ sym (ap₂ _*_ (r .m) (r .s))
+
+-- a list has no more terms than a list may have
+list-small : (f : List ℕ) (y : Layout) → Describes f y → (t l : ℕ) → t < y .head .k → l < y .head .m * y .head .s → length (listOf (meaning f) t l) ≤ greatestTerms
+list-small f y d t l u h =
+    let r = described d in
+    r .formed .stage t (subst (λ (k : ℕ). t < k) (r .k) u) .list l (subst (λ (k : ℕ). l < k) (ap₂ _*_ (r .m) (r .s)) h) .size
 
 module _ (f : List ℕ) (b : Bytes f) (y : Layout) (d : Describes f y) (t : ℕ) (u : t < y .head .k) where
   -- list l: it lies in the file, and its terms are those that the file means
@@ -52,8 +62,12 @@ module _ (f : List ℕ) (b : Bytes f) (y : Layout) (d : Describes f y) (t : ℕ)
       let o : getD (y .starts) N 0 - 4 ≡ place f N = omega arith in
       let fits : getD (y .starts) N 0 + u16At f (place f N) ≤ length f = rw o at (w .1 .fits) in
       let is : take (u16At f (place f N)) (drop (getD (y .starts) N 0) f) ≡ termBytes (listOf (meaning f) t l) = rw o at (w .1 .is) in
-      let n : getD (y .starts) (N + 1) 0 - 4 - getD (y .starts) N 0 ≡ u16At f (place f N) = omega arith in (
-        (omega arith, omega arith),
+      let n : getD (y .starts) (N + 1) 0 - 4 - getD (y .starts) N 0 ≡ u16At f (place f N) = omega arith in
+      let room : u16At f (place f N) ≤ length (drop (getD (y .starts) N 0) f) = rw length-drop (omega arith) in
+      let size : u16At f (place f N) ≡ 4 * length (listOf (meaning f) t l) =
+      sym (length-take-le (u16At f (place f N)) (drop (getD (y .starts) N 0) f) room) ∙ ap length is ∙ length-termBytes (listOf (meaning f) t l) in
+      let small = list-small f y d t l u h in (
+        (omega arith, omega arith, omega arith),
         ap terms (ap (λ (k : ℕ). take k (drop (getD (y .starts) N 0) f)) n ∙ is) ∙ terms-of-bytes (listOf (meaning f) t l),
       )
 

@@ -3,7 +3,7 @@ use mathlib.Core.Path.{_≡_, refl, sym, ap, ap₂, _∙_}
 use mathlib.Core.List.{List, [], _∷_}
 use Prim.Native.Nat.{ℕ, zero, suc, _+_, _*_, _/_, _%_, _^_, _<_, _≤_}
 use native.Mathlib.Numerals.{towards-suc, unary-clauses}
-use native.Mathlib.Nat.{mul-le-mul-right}
+use native.Mathlib.Nat.{mul-le-mul-right, add-zero}
 use native.Mathlib.Omega.{arith}
 use lib.ListN.{length, getD, drop, length-drop}
 use lib.Seq.{drop-cons}
@@ -12,11 +12,13 @@ use mir.Syntax.{w64}
 use mir.Val.{Fits}
 use lib.Bits.{bitAnd, bitOr, bitXor, xor-self, xor-zero-r, or-add-and}
 use borrow.Author.Tests.{eq-eqb, ne-eqb}
+use mathlib.Core.Bool.{Bool, true, false}
 use Rattle.finite.specs.Tests.{pick}
 use Rattle.finite.specs.Sets.{subset}
 use Rattle.finite.proofs.Xor.{xor-cancel, xor-ac, bit-cases}
 use Rattle.anf.specs.Terms.{before, valueAt}
 use Rattle.design.specs.Bytes.{little, u32At, termBytes, terms}
+use Rattle.design.specs.Limits.{greatestTerms}
 
 -- the terms from a place on
 pub terms-cons : (l : List ℕ) (at : ℕ) → at + 4 ≤ length l → terms (drop at l) ≡ u32At l at ∷ terms (drop (at + 4) l)
@@ -98,18 +100,26 @@ length-termBytes (t ∷ ts) = let e = length-termBytes ts in omega arith
 
 -- ---- counting terms
 
--- a count with one term more, r, which may wrap: its last bit
-pub count-one : (n t x r : ℕ) → bitOr t x ≡ x → r ≡ (n + 1) % 2 ^ 32 → r % 2 ≡ bitXor (n % 2) (pick (subset t x) 1 0)
+-- r is the count with a term more
+pub count-one : (n t x : ℕ) → bitOr t x ≡ x → n + 1 ≡ n + pick (subset t x) 1 0
 unfolding subset
-count-one n t x r o e =
-    let q : bitAnd t x ≡ t = omega (arith, or-add-and t x) in
-    rw (e, eq-eqb _ _ q) (bit-cases (λ b. (n + 1) % 2 ^ 32 % 2 ≡ (b + 1) % 2 → (n + 1) % 2 ^ 32 % 2 ≡ bitXor b 1) (λ e. e) (λ e. e) n (omega arith))
+count-one n t x o = let q : bitAnd t x ≡ t = omega (arith, or-add-and t x) in rw (eq-eqb _ _ q) refl
 
-pub count-none : (n t x : ℕ) → (bitOr t x ≡ x → ⊥) → n % 2 ≡ bitXor (n % 2) (pick (subset t x) 1 0)
+pub count-none : (n t x : ℕ) → (bitOr t x ≡ x → ⊥) → n ≡ n + pick (subset t x) 1 0
 unfolding subset
 count-none n t x o =
     let q : bitAnd t x ≡ t → ⊥ = λ z. o (omega (arith, or-add-and t x)) in
-    rw (ne-eqb _ _ q) (sym (xor-zero-r (n % 2)))
+    rw (ne-eqb _ _ q) (sym (add-zero n))
+
+-- its last bit
+count-bit : (n r : ℕ) (b : Bool) → r ≡ n + pick b 1 0 → r % 2 ≡ bitXor (n % 2) (pick b 1 0)
+count-bit n r true e = bit-cases (λ b. r % 2 ≡ (b + 1) % 2 → r % 2 ≡ bitXor b 1) (λ e. e) (λ e. e) n (omega arith)
+count-bit n r false e = ap (λ (x : ℕ). x % 2) (e ∙ add-zero n) ∙ sym (xor-zero-r (n % 2))
+
+-- it is one more at most
+count-most : (n r : ℕ) (b : Bool) → r ≡ n + pick b 1 0 → r ≤ n + 1
+count-most n r true e = omega arith
+count-most n r false e = omega arith
 
 -- the value of the terms from a place on
 abbrev pub rest : List ℕ → ℕ → ℕ → ℕ
@@ -164,11 +174,27 @@ behind l x half s i =
 abbrev halfOf : List ℕ → ℕ
 halfOf l = length l / 8 * 4
 
--- a turn: t and u are the terms, n₁ and n₂ the count after each
-pub left-more : (l : List ℕ) (x at n t n₁ u n₂ : ℕ) → n₂ % 2 ≡ bitXor (n₁ % 2) (pick (subset u x) 1 0) → n₁ % 2 ≡ bitXor (n % 2) (pick (subset t x) 1 0)
+-- no more terms are counted than were looked at, which is as many as a list may have
+module _ (l : List ℕ) (x at n : ℕ) (c : 2 * n ≤ at) (s : length l ≤ 4 * greatestTerms) where
+  -- a turn: t and u are the terms, n₁ and n₂ the count after each
+  module _ (h : at < halfOf l) (a : at % 4 ≡ 0) where
+    pub room-one : n < greatestTerms
+    room-one = omega arith
+
+    pub room-two : (t n₁ : ℕ) → n₁ ≡ n + pick (subset t x) 1 0 → n₁ < greatestTerms
+    room-two t n₁ e = omega (arith, count-most n n₁ (subset t x) e)
+
+  -- the term behind both halves
+  pub room-last : at ≤ halfOf l → (length l / 4 % 2 ≡ 0 → ⊥) → n < greatestTerms
+  room-last h q = omega arith
+
+pub counted-more : (x at n t n₁ u n₂ : ℕ) → 2 * n ≤ at → n₁ ≡ n + pick (subset t x) 1 0 → n₂ ≡ n₁ + pick (subset u x) 1 0 → 2 * n₂ ≤ at + 4
+counted-more x at n t n₁ u n₂ c e₁ e₂ = omega (arith, count-most n n₁ (subset t x) e₁, count-most n₁ n₂ (subset u x) e₂)
+
+pub left-more : (l : List ℕ) (x at n t n₁ u n₂ : ℕ) → n₂ ≡ n₁ + pick (subset u x) 1 0 → n₁ ≡ n + pick (subset t x) 1 0
     → Left l x (halfOf l) at (n % 2) → at < halfOf l → at % 4 ≡ 0 → t ≡ u32At l at → u ≡ u32At l (halfOf l + at) → Left l x (halfOf l) (at + 4) (n₂ % 2)
 left-more l x at n t n₁ u n₂ e₂ e₁ i h a et eu =
-    left-step l x (halfOf l) at (n % 2) (n₁ % 2) (n₂ % 2) (omega arith) (omega arith) i (rw et at e₁) (rw eu at e₂)
+    left-step l x (halfOf l) at (n % 2) (n₁ % 2) (n₂ % 2) (omega arith) (omega arith) i (rw et at (count-bit n n₁ (subset t x) e₁)) (rw eu at (count-bit n₁ n₂ (subset u x) e₂))
 
 module _ (l : List ℕ) (x at n : ℕ) (i : Left l x (halfOf l) at (n % 2)) where
   module _ (h : at ≤ halfOf l) (k : halfOf l ≤ at) where
@@ -180,5 +206,6 @@ module _ (l : List ℕ) (x at n : ℕ) (i : Left l x (halfOf l) at (n % 2)) wher
     left-none q = sym (xor-zero-r (n % 2)) ∙ ap (bitXor (n % 2)) (sym (rest-end l x (2 * halfOf l) (omega arith))) ∙ after
 
     -- the term t is left, n₁ is the count with it
-    pub left-one : (length l / 4 % 2 ≡ 0 → ⊥) → (t n₁ : ℕ) → t ≡ u32At l (2 * halfOf l) → n₁ % 2 ≡ bitXor (n % 2) (pick (subset t x) 1 0) → n₁ % 2 ≡ valueAt (terms l) x
-    left-one q t n₁ et e = rw et at e ∙ ap (bitXor (n % 2)) (sym (rest-last l x (2 * halfOf l) (omega arith) (omega arith))) ∙ after
+    pub left-one : (length l / 4 % 2 ≡ 0 → ⊥) → (t n₁ : ℕ) → t ≡ u32At l (2 * halfOf l) → n₁ ≡ n + pick (subset t x) 1 0 → n₁ % 2 ≡ valueAt (terms l) x
+    left-one q t n₁ et e =
+        rw et at (count-bit n n₁ (subset t x) e) ∙ ap (bitXor (n % 2)) (sym (rest-last l x (2 * halfOf l) (omega arith) (omega arith))) ∙ after

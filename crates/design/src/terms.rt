@@ -1,12 +1,12 @@
 // Lists of terms as they stand in a file, four bytes each.
 use super::bytes::word;
 ghost use mathlib.Core.Path.{_≡_};
-ghost use Prim.Native.Nat.{_%_, _<_};
+ghost use Prim.Native.Nat.{_+_, _*_, _≤_, _<_};
 ghost use lib.ListN.{length, getD};
-ghost use lib.Bits.{bitXor};
 ghost use Rattle.finite.specs.Tests.{pick};
 ghost use Rattle.finite.specs.Sets.{subset};
 ghost use Rattle.anf.specs.Terms.{before, valueAt};
+ghost use Rattle.design.specs.Limits.{greatestTerms};
 ghost use Rattle.design.specs.Bytes.{terms};
 
 // Whether the term `a` stands before the term `b` in a list.
@@ -31,12 +31,13 @@ pub fn term(list: &[u8], j: usize) -> u32
     word(list, 4 * j)
 }
 
-// A count of terms, and one more if the term `t` is 1 at `x`. Only its last bit matters, so it may wrap.
+// A count of terms, and one more if the term `t` is 1 at `x`.
 fn counted(n: u32, t: u32, x: u32) -> u32
-    ensures { λ r. ⌜ r % 2 ≡ bitXor (n % 2) (pick (subset t x) 1 0) ⌝ }
+    requires { ⌜ n < greatestTerms ⌝ }
+    ensures { λ r. ⌜ r ≡ n + pick (subset t x) 1 0 ⌝ }
 {
     if t | x == x {
-        return std::num::wrapping_add_u32(n, 1);
+        return n + 1;
     }
     n
 }
@@ -44,6 +45,7 @@ fn counted(n: u32, t: u32, x: u32) -> u32
 // The value at `x` of a list: how many of its terms are 1 there, modulo 2. A turn of the loop takes a term of each half, which long lists gain by; a last term
 // may follow.
 pub fn value(list: &[u8], x: u32) -> u32
+    requires { ⌜ length (now list) ≤ 4 * greatestTerms ⌝ }
     ensures { λ r. ⌜ r ≡ valueAt (terms (now (list .entry))) x ⌝ }
 {
     let half = list.len() / 8 * 4;

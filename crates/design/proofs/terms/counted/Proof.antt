@@ -5,4 +5,4 @@ use Rattle.design.proofs.terms.counted.Statement.{statement}
 use Rattle.design.proofs.terms.counted.Tie as tie
 
 pub counted-spec : {M : Type 1} → statement M
-counted-spec = tie.close (tie.spec (λ c κs. search needs) (λ c. search count-one) (λ c. search count-none))
+counted-spec = tie.close (tie.spec (λ c. search needs) (λ c. search count-one) (λ c. search count-none))
