@@ -21,8 +21,8 @@ use Rattle.finite.proofs.Testing.{all-more, all-fails}
 use Rattle.design.specs.Limits.{greatestWidth, greatestShares, greatestShareBits, greatestRecords}
 use Rattle.design.specs.Design.{stageOf}
 use Rattle.design.specs.Reading.{meaning, numberOf}
-use Rattle.design.specs.Layout.{Describes}
-use Rattle.design.specs.StageLists.{listsOf}
+use Rattle.design.specs.inside.Described.{Describes}
+use Rattle.design.specs.inside.StageLists.{listsOf}
 use Rattle.design.specs.declared.Layout.{Layout}
 use Rattle.design.proofs.Answered.{described}
 use Rattle.design.proofs.Found.{bits-high}

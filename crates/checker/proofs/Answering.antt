@@ -13,7 +13,7 @@ use Rattle.finite.proofs.Testing.{pick-true, pick-false, first-some, first-past
 use Rattle.anf.specs.Tables.{Permutation}
 use Rattle.design.specs.Design.{Stage, stageOf}
 use Rattle.design.specs.Reading.{meaning}
-use Rattle.design.specs.Layout.{Describes}
+use Rattle.design.specs.inside.Described.{Describes}
 use Rattle.design.specs.declared.Layout.{Layout}
 use Rattle.design.proofs.Answered.{described}
 use Rattle.threshold.specs.Stages.{output, correct, readsOwn, uniform}

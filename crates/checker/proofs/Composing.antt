@@ -17,7 +17,7 @@ use Rattle.finite.proofs.Testing.{all-more, all-fails}
 use Rattle.anf.specs.Tables.{entry}
 use Rattle.design.specs.Design.{Stage, noStage, stageOf}
 use Rattle.design.specs.Reading.{meaning}
-use Rattle.design.specs.Layout.{Describes}
+use Rattle.design.specs.inside.Described.{Describes}
 use Rattle.design.specs.declared.Layout.{Layout}
 use Rattle.design.proofs.Answered.{described}
 use Rattle.threshold.specs.Chain.{chained}

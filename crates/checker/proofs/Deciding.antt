@@ -13,7 +13,8 @@ use Rattle.finite.specs.Maps.{repeats}
 use Rattle.finite.proofs.Testing.{pick-true, pick-false, or-left, or-right, or-none}
 use Rattle.anf.specs.Tables.{entry}
 use Rattle.design.specs.Reading.{meaning}
-use Rattle.design.specs.Layout.{Describes, layoutOf}
+use Rattle.design.specs.Layout.{layoutOf}
+use Rattle.design.specs.inside.Described.{Describes}
 use Rattle.design.specs.declared.Layout.{Layout}
 use Rattle.design.proofs.Answered.{described, answers-described, refuses}
 use Rattle.checker.specs.Verdict.{answer, workspaceFor, chainIsBox, firstRepeating, judged, judgedReading, verdict, workspaceAfter, workspaceAfterReading}

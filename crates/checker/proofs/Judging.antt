@@ -14,7 +14,7 @@ use Rattle.design.specs.Limits.{greatestShares}
 use Rattle.design.specs.Bytes.{terms, termBytes}
 use Rattle.design.specs.Design.{stageOf, listOf}
 use Rattle.design.specs.Reading.{meaning}
-use Rattle.design.specs.Layout.{Describes}
+use Rattle.design.specs.inside.Described.{Describes}
 use Rattle.design.specs.declared.Layout.{Layout}
 use Rattle.design.proofs.Answered.{described}
 use Rattle.design.proofs.TermBytes.{terms-of-bytes}

@@ -13,7 +13,7 @@ use Rattle.finite.proofs.Maps.{repeats→injective}
 use Rattle.anf.specs.Tables.{entry}
 use Rattle.design.specs.Design.{Design, stageOf}
 use Rattle.design.specs.Reading.{meaning}
-use Rattle.design.specs.Layout.{Describes}
+use Rattle.design.specs.inside.Described.{Describes}
 use Rattle.design.specs.declared.Layout.{Layout}
 use Rattle.design.proofs.Answered.{described}
 use Rattle.checker.specs.Verdict.{firstRepeating}

@@ -11,7 +11,7 @@ use Rattle.finite.specs.Maps.{repeats}
 use Rattle.anf.specs.Tables.{entry}
 use Rattle.design.specs.Limits.{greatestShareBits}
 use Rattle.design.specs.Design.{Design}
-use Rattle.design.specs.StageLists.{AllInside}
+use Rattle.design.specs.inside.StageLists.{AllInside}
 use Rattle.threshold.specs.Sharing.{sum}
 use Rattle.threshold.specs.Stages.{output}
 use Rattle.threshold.specs.Chain.{chained}

@@ -16,7 +16,7 @@ ghost use Prim.Native.Nat.{_+_, _≤_, _<_};
 ghost use lib.ListN.{length};
 ghost use Rattle.design.specs.Design.{stageOf};
 ghost use Rattle.design.specs.Reading.{meaning};
-ghost use Rattle.design.specs.Layout.{Describes};
+ghost use Rattle.design.specs.inside.Described.{Describes};
 ghost use Rattle.checker.specs.Verdict.{answer, firstRepeating, stageVerdict, judgeStages, judged, verdict, workspaceAfter};
 ghost use Rattle.checker.specs.Parts.{judgedChain, workspaceOf};
 ghost use Rattle.checker.specs.Marks.{Cleared};

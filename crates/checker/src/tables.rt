@@ -5,7 +5,7 @@ ghost use mathlib.Core.Path.{_≡_};
 ghost use Prim.Native.Nat.{ℕ, _≤_, _<_};
 ghost use lib.ListN.{length, getD};
 ghost use Rattle.design.specs.Reading.{meaning};
-ghost use Rattle.design.specs.Layout.{Describes};
+ghost use Rattle.design.specs.inside.Described.{Describes};
 ghost use Rattle.checker.specs.Verdict.{chainIsBox, firstRepeating};
 ghost use Rattle.checker.specs.Parts.{Composes};
 

@@ -8,8 +8,9 @@ use lib.ListN.{getD, List·getD-append, drop}
 use Rattle.finite.specs.Tests.{tabulate}
 use Rattle.finite.proofs.Testing.{tabulate-length, tabulate-at}
 use Rattle.design.specs.Design.{Design, WellFormed}
-use Rattle.design.specs.Reading.{Reading, refused, means, reading, meaning, headOf, place, lastOf}
-use Rattle.design.specs.Layout.{noStarts, Describes, refusedLayout, readLayout, layoutOfReading, layoutOf, startsTo, startOf}
+use Rattle.design.specs.Reading.{Reading, reasonOf, placeOf, refused, means, reading, meaning, headOf, place, lastOf}
+use Rattle.design.specs.Layout.{noStarts, refusedLayout, readLayout, layoutOfReading, layoutOf, startsTo, startOf}
+use Rattle.design.specs.inside.Described.{Describes}
 use Rattle.design.specs.declared.Head.{Head}
 use Rattle.design.specs.declared.Layout.{Layout}
 use Rattle.design.proofs.Limits.{Bounds}
@@ -68,6 +69,22 @@ module _ (f : List ℕ) (l : Layout) (a : l ≡ layoutOf f) where
         head = ap (λ (x : Layout). x .head) q;
         starts = λ i h. ap (λ (x : Layout). getD (x .starts) i 0) q ∙ starts-at f (lastOf (headOf f) + 1) i h;
       }
+
+  pub answers-reason : l .reason ≡ reasonOf (reading f)
+  unfolding layoutOf
+  answers-reason = ap (λ (x : Layout). x .reason) a ∙ go (reading f)
+    where
+      go : (r : Reading) → layoutOfReading f r .reason ≡ reasonOf r
+      go (refused x y) = refl
+      go (means d) = refl
+
+  pub answers-place : l .place ≡ placeOf (reading f)
+  unfolding layoutOf
+  answers-place = ap (λ (x : Layout). x .place) a ∙ go (reading f)
+    where
+      go : (r : Reading) → layoutOfReading f r .place ≡ placeOf r
+      go (refused x y) = refl
+      go (means d) = refl
 
   pub refuses : (l .reason ≡ 0 → ⊥) → reading f ≡ refused (l .reason) (l .place)
   unfolding layoutOf

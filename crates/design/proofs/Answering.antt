@@ -12,7 +12,8 @@ use mir.Val.{Fits}
 use Rattle.finite.specs.Tests.{pick, tabulate}
 use Rattle.finite.proofs.Testing.{tabulate-more}
 use Rattle.design.specs.Bytes.{byte, u16At}
-use Rattle.design.specs.Layout.{Limits, noStarts, startOf, startsTo, refusedLayout, layoutOf}
+use Rattle.design.specs.Layout.{noStarts, startOf, startsTo, refusedLayout, layoutOf}
+use Rattle.design.specs.inside.Described.{Limits}
 use Rattle.design.specs.Limits.{greatestRecords, broken, checked}
 use Rattle.design.specs.Reading.{lastOf, frameFault, faultAt, refused, means, reading, walk, place, headOf, meaning}
 use Rattle.design.specs.declared.Head.{Head}

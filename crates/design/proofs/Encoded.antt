@@ -11,7 +11,8 @@ use Rattle.design.specs.Limits.{greatestTerms}
 use Rattle.design.specs.Bytes.{byte, u16At, u32At, two, four, termBytes}
 use Rattle.design.specs.Design.{Design, Stage, noStage, stageOf, listOf, TableFits, ListFits, WellFormed}
 use Rattle.design.specs.Encode.{join, aRecord}
-use Rattle.design.specs.Reading.{lastOf, numberOf, kindDue, sizeDue, lengthDue, frameFault, entryFits, previous, termFits, bodyFault, faultAt, means, reading, walk, place, headOf, meaning, stageAt, tableAt, listAt}
+use Rattle.design.specs.Reading.{lastOf, numberOf, kindDue, sizeDue, lengthDue, frameFault, entryFits, previous, termFits, bodyFault, faultAt}
+use Rattle.design.specs.Reading.{means, reading, walk, place, headOf, meaning, stageAt, tableAt, listAt}
 use Rattle.design.specs.declared.Head.{Head}
 use Rattle.design.proofs.Flat.{headFor, stageBody, bodyOf, recordOf, flat}
 use Rattle.design.proofs.Records.{body-1, body-2, body-3, body-4, fault-body, entry-fits, term-fits}
@@ -82,7 +83,8 @@ frame-zero f at k z b w l =
     let r : u16At f at ≤ length f - at - 4 = omega arith in
     simp (le-ltb _ _ q, eq-eqb _ _ (w .kind), d, le-ltb _ _ r)
 
-fault-zero : (f : List ℕ) (h : Head) (i at k : ℕ) (b : List ℕ) → k ≡ kindDue h i → Holds f at k b → lengthDue k (sizeDue h k) (length b) ≡ true → bodyFault f h k (at + 4) (length b) ≡ 0 → faultAt f h i at ≡ 0
+fault-zero : (f : List ℕ) (h : Head) (i at k : ℕ) (b : List ℕ) → k ≡ kindDue h i → Holds f at k b → lengthDue k (sizeDue h k) (length b) ≡ true
+    → bodyFault f h k (at + 4) (length b) ≡ 0 → faultAt f h i at ≡ 0
 fault-zero f h i at k b e w l c = fault-body f h i at k (sizeDue h k) e refl (frame-zero f at k (sizeDue h k) b w l) ∙ rw (w .size) c
 
 -- a table's entries
@@ -110,7 +112,8 @@ term-in f at k ts w j h =
     four-of f (at + 4 + 4 * j) (getD ts j 0) (r .0 ++ w .rest)
     (sym (drop-drop (4 * j) (at + 4) f) ∙ ap (drop (4 * j)) (w .after) ∙ drop-append-le (4 * j) (termBytes ts) (w .rest) (omega arith) ∙ ap (λ (x : List ℕ). x ++ w .rest) (r .1))
 
-rises-in : (f : List ℕ) (at n : ℕ) (ts : List ℕ) → Holds f at 3 (termBytes ts) → ListFits n ts → (j : ℕ) → j < length ts → (eqb j 0 || before (previous f (at + 4) j) (u32At f (at + 4 + 4 * j))) ≡ true
+rises-in : (f : List ℕ) (at n : ℕ) (ts : List ℕ) → Holds f at 3 (termBytes ts) → ListFits n ts → (j : ℕ) → j < length ts
+    → (eqb j 0 || before (previous f (at + 4) j) (u32At f (at + 4 + 4 * j))) ≡ true
 unfolding previous
 rises-in f at n ts w t zero u = refl
 rises-in f at n ts w t (suc j) u =
@@ -141,7 +144,8 @@ holds-list f at ts w =
     rw q (tabulate-of ts (length ts) (λ j. u32At f (at + 4 + 4 * j)) 0 refl (term-in f at 3 ts w))
 
 -- a walk over records without fault
-walk-through : (f : List ℕ) (h : Head) (left i at : ℕ) → at ≡ place f i → ((j : ℕ) → j < i + left → faultAt f h j (place f j) ≡ 0) → length f ≤ place f (i + left) → walk f h left i at ≡ means (meaning f)
+walk-through : (f : List ℕ) (h : Head) (left i at : ℕ) → at ≡ place f i → ((j : ℕ) → j < i + left → faultAt f h j (place f j) ≡ 0)
+    → length f ≤ place f (i + left) → walk f h left i at ≡ means (meaning f)
 unfolding walk
 walk-through f h zero i at p e l =
     let q : length f ≤ at = rw (p, ← add-zero i) l in
@@ -221,14 +225,18 @@ module _ (d : Design) (w : WellFormed d) where
   module _ (t : ℕ) (a : t < d .k) where
     pub table-at : Holds (flat d) (place (flat d) (numberOf (headFor d) t 0)) 2 (stageOf d t .table)
     unfolding stageBody
-    table-at = rw (staged (headFor d) t 0 a (omega arith), body-stage d t 0 a (omega arith)) at (record-at (numberOf (headFor d) t 0) (let q = number-low (headFor d) t 0 a (omega arith) in omega arith))
+    table-at =
+        rw (staged (headFor d) t 0 a (omega arith), body-stage d t 0 a (omega arith)) at
+        (record-at (numberOf (headFor d) t 0) (let q = number-low (headFor d) t 0 a (omega arith) in omega arith))
 
     kind-list : (l : ℕ) → suc l ≤ d .m * d .s → kindDue (headFor d) (numberOf (headFor d) t (suc l)) ≡ 3
     kind-list l b = staged (headFor d) t (suc l) a b ∙ simp (ne-eqb (suc l) 0 (λ z. omega arith))
 
     pub list-at : (l : ℕ) → suc l ≤ d .m * d .s → Holds (flat d) (place (flat d) (numberOf (headFor d) t (suc l))) 3 (termBytes (listOf d t l))
     unfolding stageBody
-    list-at l b = rw (kind-list l b, body-stage d t (suc l) a b) at (record-at (numberOf (headFor d) t (suc l)) (let q = number-low (headFor d) t (suc l) a b in omega arith))
+    list-at l b =
+        rw (kind-list l b, body-stage d t (suc l) a b) at
+        (record-at (numberOf (headFor d) t (suc l)) (let q = number-low (headFor d) t (suc l) a b in omega arith))
 
     none-stage : (l : ℕ) → l ≤ d .m * d .s → None (numberOf (headFor d) t l)
     none-stage zero b = table-zero (flat d) (headFor d) _ _ _ (sym (staged (headFor d) t 0 a b)) table-at (w .stage t a .table)

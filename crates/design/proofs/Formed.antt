@@ -72,7 +72,8 @@ module _ (f : List ℕ) (r : reading f ≡ means (meaning f)) where
         table = table-fits f h (numberOf h t 0) _ (fine f r _ (let q = number-low h t 0 a (omega arith) in omega arith)) (staged h t 0 a (omega arith));
         count = tabulate-length _ _;
         list = λ l b. let v : getD (stageAt f h t .lists) l [] ≡ listAt f (place f (numberOf h t (l + 1))) = tabulate-at _ _ l [] b in rw v
-            (list-fits f h (numberOf h t (l + 1)) _ (fine f r _ (let q = number-low h t (l + 1) a (omega arith) in omega arith)) (staged h t (l + 1) a (omega arith) ∙ simp (ne-eqb (l + 1) 0 (λ z. omega arith))));
+            (list-fits f h (numberOf h t (l + 1)) _ (fine f r _ (let q = number-low h t (l + 1) a (omega arith) in omega arith))
+            (staged h t (l + 1) a (omega arith) ∙ simp (ne-eqb (l + 1) 0 (λ z. omega arith))));
       }
 
   pub formed : WellFormed (meaning f)

@@ -18,7 +18,7 @@ use Rattle.finite.proofs.Testing.{tabulate-at}
 use Rattle.design.specs.Limits.{greatestWidth, greatestShares, greatestShareBits, greatestTerms}
 use Rattle.design.specs.Bytes.{byte, u16At}
 use Rattle.design.specs.Design.{Design, noStage, stageOf, listOf}
-use Rattle.design.specs.Layout.{Limits, Describes}
+use Rattle.design.specs.inside.Described.{Limits, Describes}
 use Rattle.design.specs.Reading.{lastOf, numberOf, kindDue, sizeDue, lengthDue, faultAt, Reading, refused, means, reading, walk, place, headOf, meaning, stageAt, tableAt, listAt}
 use Rattle.design.specs.declared.Head.{Head}
 use Rattle.design.specs.declared.Layout.{Layout}
@@ -74,7 +74,8 @@ module _ (h : Head) (t l : ℕ) (a : t < h .k) (b : l ≤ h .m * h .s) where
       simp (ne-eqb (numberOf h t l) 0 (λ z. omega arith), ne-eqb (numberOf h t l) 1 (λ z. omega arith), ne-eqb (numberOf h t l) (lastOf h) (λ z. omega arith), number-mod)
 
 -- every record is the head, the box, the end or a stage's
-pub record-cases : (h : Head) (P : ℕ → Type 0) → P 0 → P 1 → P (lastOf h) → ((t l : ℕ) → t < h .k → l ≤ h .m * h .s → P (numberOf h t l)) → (i : ℕ) → i < lastOf h + 1 → P i
+pub record-cases : (h : Head) (P : ℕ → Type 0) → P 0 → P 1 → P (lastOf h)
+    → ((t l : ℕ) → t < h .k → l ≤ h .m * h .s → P (numberOf h t l)) → (i : ℕ) → i < lastOf h + 1 → P i
 unfolding lastOf numberOf
 record-cases h P a b c s i u = go (decLt i 1) (decLt i 2) (decLt i (lastOf h))
   where
@@ -131,19 +132,21 @@ module _ (f : List ℕ) (r : reading f ≡ means (meaning f)) where
     -- the table's record
     pub table-framed : Framed f (place f (numberOf (headOf f) t 0)) 2 (2 ^ headOf f .m)
     unfolding sizeDue
-    table-framed = rw (staged (headOf f) t 0 a (omega arith)) at (fault-framed f (headOf f) (numberOf (headOf f) t 0) _ (fine _ (let n = number-low (headOf f) t 0 a (omega arith) in omega arith)))
+    table-framed =
+        rw (staged (headOf f) t 0 a (omega arith)) at
+        (fault-framed f (headOf f) (numberOf (headOf f) t 0) _ (fine _ (let n = number-low (headOf f) t 0 a (omega arith) in omega arith)))
 
     pub list-framed : (i : ℕ) → i < headOf f .m * headOf f .s → Framed f (place f (numberOf (headOf f) t (i + 1))) 3 (4 * greatestTerms)
     unfolding sizeDue
-    list-framed i b = rw (staged (headOf f) t (i + 1) a (omega arith), ne-eqb (i + 1) 0 (λ z. omega arith)) at (fault-framed f (headOf f) (numberOf (headOf f) t (i + 1)) _ (fine _ (let n = number-low (headOf f) t (i + 1) a (omega arith) in omega arith)))
+    list-framed i b =
+        rw (staged (headOf f) t (i + 1) a (omega arith), ne-eqb (i + 1) 0 (λ z. omega arith)) at
+        (fault-framed f (headOf f) (numberOf (headOf f) t (i + 1)) _
+        (fine _ (let n = number-low (headOf f) t (i + 1) a (omega arith) in omega arith)))
 
 -- n bytes of the file f from a place on, which are b
 pub record Part (f : List ℕ) (from n : ℕ) (b : List ℕ) : Type 0 where
   pub fits : from + n ≤ length f
   pub is : take n (drop from f) ≡ b
-
-pub part-at : {f : List ℕ} {from n : ℕ} {b : List ℕ} → Part f from n b → (x : ℕ) → x < n → (from + x < length f) × (byte f (from + x) ≡ getD b x 0)
-part-at {f} {from} {n} p x u = (let q = p .fits in omega arith, sym (getD-drop from f x 0) ∙ sym (getD-take n (drop from f) x 0 u) ∙ ap (λ (l : List ℕ). getD l x 0) (p .is))
 
 -- a layout that describes the file f
 module _ (f : List ℕ) (l : Layout) (d : Describes f l) where

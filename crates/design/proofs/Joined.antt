@@ -30,8 +30,11 @@ module _ (g : ℕ → List ℕ) where
       go : Dec (i < n) → (i < n → (rest : List ℕ) × (join (tabulate n g) ≡ join (tabulate i g) ++ (g i ++ rest))) →
           (rest : List ℕ) × (join (tabulate (suc n) g) ≡ join (tabulate i g) ++ (g i ++ rest))
       go (yes l) ih =
-          let r = ih l in
-          (r .0 ++ g n, join-snoc g n ∙ ap (λ (x : List ℕ). x ++ g n) (r .1) ∙ append-assoc (join (tabulate i g)) (g i ++ r .0) (g n) ∙ ap (λ (x : List ℕ). join (tabulate i g) ++ x) (append-assoc (g i) (r .0) (g n)))
+          let r = ih l in (
+            r .0 ++ g n,
+            join-snoc g n ∙ ap (λ (x : List ℕ). x ++ g n) (r .1)
+                ∙ append-assoc (join (tabulate i g)) (g i ++ r .0) (g n) ∙ ap (λ (x : List ℕ). join (tabulate i g) ++ x) (append-assoc (g i) (r .0) (g n)),
+          )
       go (no l) ih =
           let e : n ≡ i = omega arith in
           ([], join-snoc g n ∙ rw e (ap (λ (x : List ℕ). join (tabulate i g) ++ x) (sym (append-nil (g i)))))

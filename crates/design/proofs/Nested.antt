@@ -38,7 +38,8 @@ join-add : (n m : ℕ) (g : ℕ → List ℕ) → join (tabulate (n + m) g) ≡ 
 join-add n zero g = rw (add-zero, join-none) (sym (append-nil (join (tabulate n g))))
 join-add n (suc m) g =
     let e : n + suc m ≡ suc (n + m) = omega arith in
-    rw e (join-snoc g (n + m) ∙ ap (λ (x : List ℕ). x ++ g (n + m)) (join-add n m g) ∙ append-assoc (join (tabulate n g)) _ (g (n + m)) ∙ ap (λ (x : List ℕ). join (tabulate n g) ++ x) (sym (join-snoc (λ i. g (n + i)) m)))
+    rw e (join-snoc g (n + m) ∙ ap (λ (x : List ℕ). x ++ g (n + m)) (join-add n m g)
+    ∙ append-assoc (join (tabulate n g)) _ (g (n + m)) ∙ ap (λ (x : List ℕ). join (tabulate n g) ++ x) (sym (join-snoc (λ i. g (n + i)) m)))
 
 -- k times c lists
 join-mul : (k c : ℕ) (g : ℕ → List ℕ) → join (tabulate (k * c) g) ≡ join (tabulate k (λ t. join (tabulate c (λ l. g (t * c + l)))))
@@ -67,7 +68,8 @@ module _ (d : Design) (w : WellFormed d) where
   stages-encode =
       join-mul (d .k) (1 + d .m * d .s) (λ i. recordOf d (2 + i)) ∙
       rw (map-is stageBytes (d .stages) (d .k) noStage (w .count))
-      (ap join (tabulate-congr (d .k) _ _ (λ t a. ap join (tabulate-congr (1 + d .m * d .s) _ (λ l. recordOf d (numberOf (headFor d) t l)) (λ l b. ap (recordOf d) (omega arith))) ∙ stage-encode t a)))
+      (ap join (tabulate-congr (d .k) _ _ (λ t a.
+      ap join (tabulate-congr (1 + d .m * d .s) _ (λ l. recordOf d (numberOf (headFor d) t l)) (λ l b. ap (recordOf d) (omega arith))) ∙ stage-encode t a)))
 
   end-encode : recordOf d (lastOf (headFor d)) ≡ aRecord 4 []
   unfolding recordOf

@@ -11,13 +11,12 @@ use mir.Syntax.{w8, w64}
 use mir.Val.{Fits}
 use borrow.Rule.Slice.Know.{Fit}
 use borrow.Table.Referent.{fInt}
-use Rattle.anf.specs.Tables.{entry}
 use Rattle.design.specs.Bytes.{u16At, termBytes}
 use Rattle.design.specs.Design.{stageOf, listOf}
-use Rattle.design.specs.Layout.{Describes}
+use Rattle.design.specs.inside.Described.{Describes}
 use Rattle.design.specs.Reading.{numberOf, meaning}
 use Rattle.design.specs.declared.Layout.{Layout}
-use Rattle.design.proofs.Found.{Part, part-at, limited, box-part, table-part}
+use Rattle.design.proofs.Found.{Part, limited, box-part, table-part}
 use Rattle.design.proofs.Written.{list-part}
 
 -- n bytes from `from` on, as a slice that ends at from + n
@@ -46,16 +45,6 @@ module _ (f : List ℕ) (l : Layout) (d : Describes f l) where
       pub box-is : take (from + n - from) (drop from f) ≡ meaning f .box
       box-is = slice-is f _ from n _ box en
 
-    module _ (x : ℕ) (h : x < 2 ^ l .head .m) where
-      pub box-entry-there : from + x < length f
-      box-entry-there = part-at box x h .0
-
-      pub box-entry-fits : length f < 2 ^ 64 → Fits w64 (from + x)
-      box-entry-fits k = record { fits = omega (arith, box-entry-there) }
-
-      pub box-entry-is : getD f (from + x) 0 ≡ entry (meaning f .box) x
-      box-entry-is = part-at box x h .1
-
   -- the table of stage t, record i
   module _ (t : ℕ) (a : t < l .head .k) (i : ℕ) (ei : i ≡ numberOf (l .head) t 0) (from : ℕ) (e : from ≡ getD (l .starts) i 0) where
     table : Part f from (2 ^ l .head .m) (stageOf (meaning f) t .table)
@@ -70,16 +59,6 @@ module _ (f : List ℕ) (l : Layout) (d : Describes f l) where
 
       pub table-is : take (from + n - from) (drop from f) ≡ stageOf (meaning f) t .table
       table-is = slice-is f _ from n _ table en
-
-    module _ (x : ℕ) (h : x < 2 ^ l .head .m) where
-      pub entry-there : from + x < length f
-      entry-there = part-at table x h .0
-
-      pub entry-fits : length f < 2 ^ 64 → Fits w64 (from + x)
-      entry-fits k = record { fits = omega (arith, entry-there) }
-
-      pub entry-is : getD f (from + x) 0 ≡ entry (stageOf (meaning f) t .table) x
-      entry-is = part-at table x h .1
 
   -- list j of stage t, record i
   module _ (t j : ℕ) (a : t < l .head .k) (b : j < l .head .m * l .head .s) (i : ℕ) (ei : i ≡ numberOf (l .head) t (j + 1)) (from : ℕ)

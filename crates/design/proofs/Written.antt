@@ -16,7 +16,7 @@ use Rattle.design.specs.Limits.{greatestTerms}
 use Rattle.design.specs.Bytes.{byte, u16At, u32At, termBytes, Bytes}
 use Rattle.design.specs.Design.{Design, stageOf, listOf}
 use Rattle.design.specs.Encode.{join, aRecord}
-use Rattle.design.specs.Layout.{Describes}
+use Rattle.design.specs.inside.Described.{Describes}
 use Rattle.design.specs.Reading.{lastOf, numberOf, kindDue, sizeDue, lengthDue, means, reading, place, headOf, meaning, stageAt, tableAt, listAt}
 use Rattle.design.specs.declared.Head.{Head}
 use Rattle.design.specs.declared.Layout.{Layout}
@@ -92,7 +92,8 @@ module _ (f : List ℕ) (b : Bytes f) where
       let e : 4 * suc n ≡ 4 + 4 * n = omega arith in
       let z : p + 4 * 0 ≡ p = omega arith in
       let g : _≡_ {A = ℕ → ℕ} (λ j. u32At f (p + 4 * suc j)) (λ j. u32At f (p + 4 + 4 * j)) = fun-ext (λ j. ap (u32At f) (omega arith)) in
-      rw (e, apart f p (4 * n) (omega arith), z, byte0 p, byte1 p, byte2 p, byte3 p, g) (ap (λ (l : List ℕ). byte f p ∷ byte f (p + 1) ∷ byte f (p + 2) ∷ byte f (p + 3) ∷ l) (terms-are n (p + 4) (omega arith)))
+      rw (e, apart f p (4 * n) (omega arith), z, byte0 p, byte1 p, byte2 p, byte3 p, g)
+      (ap (λ (l : List ℕ). byte f p ∷ byte f (p + 1) ∷ byte f (p + 2) ∷ byte f (p + 3) ∷ l) (terms-are n (p + 4) (omega arith)))
 
   -- a record that lies within the file is its frame and its body
   span-is : (at : ℕ) → at + 4 + u16At f at ≤ length f → take (4 + u16At f at) (drop at f) ≡ aRecord (u16At f (at + 2)) (take (u16At f at) (drop (at + 4) f))
@@ -202,7 +203,8 @@ module _ (f : List ℕ) (b : Bytes f) (r : reading f ≡ means (meaning f)) wher
       sym (take-all (place f (lastOf (headOf f) + 1)) f (rw z at (e .1))) ∙ spans f (lastOf (headOf f) + 1) ∙ ap join (tabulate-congr _ (span f) (recordOf (meaning f)) record-is)
 
 -- a list's bytes as they stand, and where
-pub list-part : (f : List ℕ) → Bytes f → (y : Layout) (d : Describes f y) (t l i from : ℕ) → t < y .head .k → l < y .head .m * y .head .s → i ≡ numberOf (y .head) t (l + 1) → from ≡ getD (y .starts) i 0
+pub list-part : (f : List ℕ) → Bytes f → (y : Layout) (d : Describes f y) (t l i from : ℕ) → t < y .head .k → l < y .head .m * y .head .s
+    → i ≡ numberOf (y .head) t (l + 1) → from ≡ getD (y .starts) i 0
     → (4 ≤ from) × Part f from (u16At f (from - 4)) (termBytes (listOf (meaning f) t l))
 unfolding listAt
 list-part f b y d t l i from a₀ c₀ n₀ e₀ =

@@ -1,4 +1,4 @@
--- Bench designs: what files read as.
+-- "Bench designs": what files read as, and which heads pass.
 use Prim.Native.Nat.{ℕ}
 use mathlib.Core.List.{List, [], _∷_, _++_}
 use Rattle.design.specs.Design.{Design}
@@ -7,7 +7,14 @@ use Rattle.design.specs.Reading.{Reading, refused, means}
 -- the 47 bytes of D: one bit, three shares
 abbrev pub fileD : List ℕ
 fileD =
-    3 ∷ 0 ∷ 1 ∷ 0 ∷ 1 ∷ 3 ∷ 1 ∷ 2 ∷ 0 ∷ 2 ∷ 0 ∷ 0 ∷ 1 ∷ 2 ∷ 0 ∷ 2 ∷ 0 ∷ 0 ∷ 1 ∷ 4 ∷ 0 ∷ 3 ∷ 0 ∷ 2 ∷ 0 ∷ 0 ∷ 0 ∷ 4 ∷ 0 ∷ 3 ∷ 0 ∷ 4 ∷ 0 ∷ 0 ∷ 0 ∷ 4 ∷ 0 ∷ 3 ∷ 0 ∷ 1 ∷ 0 ∷ 0 ∷ 0 ∷ 0 ∷ 0 ∷ 4 ∷ 0 ∷ []
+    3 ∷ 0 ∷ 1 ∷ 0 ∷ 1 ∷ 3 ∷ 1 ∷
+    2 ∷ 0 ∷ 2 ∷ 0 ∷ 0 ∷ 1 ∷
+    2 ∷ 0 ∷ 2 ∷ 0 ∷ 0 ∷ 1 ∷
+    4 ∷ 0 ∷ 3 ∷ 0 ∷ 2 ∷ 0 ∷ 0 ∷ 0 ∷
+    4 ∷ 0 ∷ 3 ∷ 0 ∷ 4 ∷ 0 ∷ 0 ∷ 0 ∷
+    4 ∷ 0 ∷ 3 ∷ 0 ∷ 1 ∷ 0 ∷ 0 ∷ 0 ∷
+    0 ∷ 0 ∷ 4 ∷ 0 ∷
+    []
 
 -- what D means: S and G are 0 1, and the components read shares 2, 3 and 1
 abbrev pub designD : Design
@@ -27,14 +34,30 @@ headFile m s = 3 ∷ 0 ∷ 1 ∷ 0 ∷ m ∷ s ∷ 1 ∷ []
 abbrev pub startD : List ℕ
 startD = 3 ∷ 0 ∷ 1 ∷ 0 ∷ 1 ∷ 3 ∷ 1 ∷ 2 ∷ 0 ∷ 2 ∷ 0 ∷ 0 ∷ 1 ∷ 2 ∷ 0 ∷ 2 ∷ 0 ∷ 0 ∷ 1 ∷ []
 
-pub record Row : Type 0 where
+-- a head's numbers, and the paper's number and values for its answer
+pub record HeadRow : Type 0 where
+  pub m : ℕ
+  pub s : ℕ
+  pub answer : ℕ × List ℕ
+
+-- m, s of 4, 5 pass the head; 5, 5 and 6, 4 and 4, 2 give 4
+abbrev pub headRows : List HeadRow
+headRows =
+    record { m = 4; s = 5; answer = (0, 4 ∷ 5 ∷ 1 ∷ []) } ∷
+    record { m = 5; s = 5; answer = (4, []) } ∷
+    record { m = 6; s = 4; answer = (4, []) } ∷
+    record { m = 4; s = 2; answer = (4, []) } ∷
+    []
+
+-- a file, and what it reads as
+pub record ReadingRow : Type 0 where
   pub file : List ℕ
   pub answer : Reading
 
-abbrev row : List ℕ → Reading → Row
+abbrev row : List ℕ → Reading → ReadingRow
 row f r = record { file = f; answer = r }
 
-abbrev pub rows : List Row
+abbrev pub rows : List ReadingRow
 rows =
     -- D reads
     row fileD (means designD) ∷

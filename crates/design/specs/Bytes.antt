@@ -1,4 +1,4 @@
--- Bytes of a file: numbers of two and of four bytes, little-endian, and lists of terms.
+-- "The design file", its bytes: numbers of two and of four bytes, little-endian, and lists of terms.
 use Prim.Native.Nat.{ℕ, _+_, _*_, _/_, _%_, _<_}
 use mathlib.Core.List.{List, [], _∷_, _++_}
 use lib.ListN.{getD}

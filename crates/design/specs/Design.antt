@@ -1,4 +1,4 @@
--- What a design file means: an S-box and a chain of stages.
+-- "The design file": what it means, an S-box and a chain of stages.
 use Prim.Native.Nat.{ℕ, _*_, _^_, _≤_, _<_}
 use mathlib.Core.Path.{_≡_}
 use mathlib.Core.Bool.{false}

@@ -1,4 +1,4 @@
--- The bytes of the one file that means a design, record by record.
+-- "The design file", record by record: the bytes of the one file that means a design.
 use Prim.Native.Nat.{ℕ}
 use mathlib.Core.List.{List, [], _∷_, _++_, map}
 use lib.ListN.{length}

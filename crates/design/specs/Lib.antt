@@ -7,6 +7,5 @@ pub mod Writing
 pub mod Reading
 pub mod Refused
 pub mod Layout
-pub mod StageLists
 pub mod Bench
 pub mod inside

@@ -1,4 +1,4 @@
--- The limits of the head and of a list.
+-- "What the library covers": the limits, which are fixed with the head and belong to it. "The design file": the limit of a list.
 use Prim.Native.Nat.{ℕ, _+_, _*_}
 use mathlib.Core.Bool.{Bool, _||_}
 use mathlib.Core.List.{List, [], _∷_}
@@ -27,7 +27,7 @@ greatestStages = 4
 abbrev pub greatestTerms : ℕ
 greatestTerms = 4096
 
--- the greatest number of records of a file: the head, the box, a table and a list for each share bit in each stage, the end
+-- what follows: the greatest number of records of a file, the head, the box, a table and a list for each share bit in each stage, the end
 abbrev pub greatestRecords : ℕ
 greatestRecords = 3 + greatestStages * (1 + greatestShareBits)
 

@@ -1,4 +1,4 @@
--- Reading: the first fault of a file with its place, or the design that it means.
+-- "Reading": the first fault of a file with its place, or the design that it means.
 use Prim.Native.Nat.{ℕ, zero, suc, _+_, _*_, _-_, _/_, _%_, _^_}
 use mathlib.Core.List.{List, [], _∷_, _++_}
 use mathlib.Core.Bool.{Bool, _&&_, _||_, not}
@@ -17,7 +17,7 @@ pub data Reading : Type 0 where
   refused : ℕ → ℕ → Reading
   means : Design → Reading
 
--- ---- The records that are due. They are numbered from 0 on.
+-- ---- "The design file": the records that are due, numbered from 0 on.
 
 -- the three numbers of the head
 abbrev pub headOf : List ℕ → Head

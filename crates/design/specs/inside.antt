@@ -1,2 +1,4 @@
 -- What contracts inside the library need: no published contract and no promise speaks of it.
+pub mod Described
+pub mod StageLists
 pub mod Overwriting

@@ -6,9 +6,7 @@ mod parts; // parts.rt: the tables and lists of a file that reads
 mod writer; // writer.rt: records, lists and the end of a file
 
 pub use parts::body;
-pub use parts::box_entry;
 pub use parts::box_table;
-pub use parts::entry;
 pub use parts::list;
 pub use parts::number;
 pub use parts::table;

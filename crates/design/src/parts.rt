@@ -4,15 +4,14 @@ use super::Layout;
 use super::bytes::pair;
 use finite::power;
 ghost use mathlib.Core.Path.{_≡_};
-ghost use Prim.Native.Nat.{_*_, _^_, _≤_, _<_};
+ghost use Prim.Native.Nat.{_*_, _≤_, _<_};
 ghost use lib.ListN.{getD};
-ghost use Rattle.anf.specs.Tables.{entry as entryOf};
 ghost use Rattle.design.specs.Bytes.{termBytes};
 ghost use Rattle.design.specs.Design.{stageOf, listOf};
 ghost use Rattle.design.specs.Limits.{greatestRecords};
 ghost use Rattle.design.specs.Reading.{lastOf, numberOf, meaning};
-ghost use Rattle.design.specs.Layout.{Limits, Describes};
-ghost use Rattle.design.specs.StageLists.{bodyAt, Inside};
+ghost use Rattle.design.specs.inside.Described.{Limits, Describes};
+ghost use Rattle.design.specs.inside.StageLists.{bodyAt, Inside};
 
 // The number of a record of stage `t`: its table at `l` 0, its lists from 1 on.
 pub fn number(h: Head, t: usize, l: usize) -> usize
@@ -40,15 +39,6 @@ pub fn box_table(file: &[u8], layout: Layout) -> &[u8]
     &file[from..from + n]
 }
 
-// Entry `x` of the box S.
-pub fn box_entry(file: &[u8], layout: Layout, x: usize) -> u8
-    requires { ⌜ Describes (now file) layout × (x < 2 ^ layout .head .m) ⌝ }
-    ensures { λ r. ⌜ r ≡ entryOf (meaning (now (file .entry)) .box) x ⌝ }
-{
-    let from = start(layout, 1);
-    file[from + x]
-}
-
 // The table of stage `t`.
 pub fn table(file: &[u8], layout: Layout, t: usize) -> &[u8]
     requires { ⌜ Describes (now file) layout × (t < layout .head .k) ⌝ }
@@ -58,16 +48,6 @@ pub fn table(file: &[u8], layout: Layout, t: usize) -> &[u8]
     let from = start(layout, i);
     let n = power(layout.head.m);
     &file[from..from + n]
-}
-
-// Entry `x` of the table of stage `t`.
-pub fn entry(file: &[u8], layout: Layout, t: usize, x: usize) -> u8
-    requires { ⌜ Describes (now file) layout × (t < layout .head .k) × (x < 2 ^ layout .head .m) ⌝ }
-    ensures { λ r. ⌜ r ≡ entryOf (stageOf (meaning (now (file .entry))) t .table) x ⌝ }
-{
-    let i = number(layout.head, t, 0);
-    let from = start(layout, i);
-    file[from + x]
 }
 
 // The bytes of list `l` of stage `t`.

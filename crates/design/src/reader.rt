@@ -18,7 +18,8 @@ ghost use Rattle.finite.specs.Tests.{all};
 ghost use Rattle.anf.specs.Terms.{before};
 ghost use Rattle.design.specs.Limits.{greatestRecords};
 ghost use Rattle.design.specs.Reading.{headOf, lastOf, kindDue, sizeDue, lengthDue, frameFault, entryFits, termFits, faultAt};
-ghost use Rattle.design.specs.Layout.{Limits, refusedLayout, layoutOf};
+ghost use Rattle.design.specs.Layout.{refusedLayout, layoutOf};
+ghost use Rattle.design.specs.inside.Described.{Limits};
 
 // Whether a record of this kind may have the length `n`.
 fn length_fits(kind: usize, size: usize, n: usize) -> bool

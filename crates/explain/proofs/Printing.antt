@@ -7,7 +7,8 @@ use native.Mathlib.Nat.{div-le-self}
 use native.Mathlib.Omega.{arith}
 use mir.Syntax.{w64}
 use mir.Val.{Fits}
-use Rattle.design.specs.Layout.{Describes, layoutOf}
+use Rattle.design.specs.Layout.{layoutOf}
+use Rattle.design.specs.inside.Described.{Describes}
 use Rattle.design.specs.declared.Layout.{Layout}
 use Rattle.design.proofs.Answered.{described, answers-described}
 

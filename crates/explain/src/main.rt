@@ -1,7 +1,7 @@
 // Reads a design file on standard input and prints it for a person: head, tables, each component's formula,
 // and the verdict in words.
 ghost use Prim.Native.Nat.{_+_, _*_, _<_, _≤_};
-ghost use Rattle.design.specs.Layout.{Describes};
+ghost use Rattle.design.specs.inside.Described.{Describes};
 use checker::Verdict;
 use design::Layout;
 

@@ -10,7 +10,7 @@ use Rattle.finite.proofs.Testing.{pick-true, pick-false}
 use Rattle.design.specs.Limits.{greatestShares}
 use Rattle.design.specs.Design.{Stage, Design, noStage}
 use Rattle.design.specs.Reading.{Reading, refused, means, reading, meaning}
-use Rattle.design.specs.Layout.{Describes}
+use Rattle.design.specs.inside.Described.{Describes}
 use Rattle.design.specs.declared.Layout.{Layout}
 use Rattle.design.proofs.Answered.{described}
 use Rattle.threshold.specs.Stages.{output}

@@ -17,7 +17,8 @@ use Rattle.finite.proofs.Testing.{all-more, all-fails, tabulate-more}
 use Rattle.design.specs.Limits.{greatestWidth, greatestShares, greatestShareBits}
 use Rattle.design.specs.Design.{stageOf}
 use Rattle.design.specs.Reading.{meaning}
-use Rattle.design.specs.Layout.{Describes, layoutOf}
+use Rattle.design.specs.Layout.{layoutOf}
+use Rattle.design.specs.inside.Described.{Describes}
 use Rattle.design.specs.declared.Layout.{Layout}
 use Rattle.design.proofs.Answered.{described, answers-described, refuses}
 use Rattle.design.proofs.Found.{shares-high}

@@ -8,8 +8,8 @@ ghost use Rattle.design.specs.Bytes.{terms};
 ghost use Rattle.design.specs.Limits.{greatestWidth, greatestShareBits};
 ghost use Rattle.design.specs.Design.{stageOf};
 ghost use Rattle.design.specs.Reading.{meaning};
-ghost use Rattle.design.specs.Layout.{Describes};
-ghost use Rattle.design.specs.StageLists.{bodyAt, Inside, AllInside, listsOf};
+ghost use Rattle.design.specs.inside.Described.{Describes};
+ghost use Rattle.design.specs.inside.StageLists.{bodyAt, Inside, AllInside, listsOf};
 ghost use Rattle.threshold.specs.Sharing.{sum};
 ghost use Rattle.threshold.specs.Stages.{output, component};
 

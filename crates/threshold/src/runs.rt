@@ -9,7 +9,7 @@ ghost use Prim.Native.Nat.{_*_, _^_, _≤_, _<_};
 ghost use Rattle.design.specs.Limits.{greatestWidth, greatestShares, greatestShareBits};
 ghost use Rattle.design.specs.Design.{stageOf};
 ghost use Rattle.design.specs.Reading.{meaning};
-ghost use Rattle.design.specs.Layout.{Describes};
+ghost use Rattle.design.specs.inside.Described.{Describes};
 ghost use Rattle.threshold.specs.Stages.{output};
 ghost use Rattle.threshold.specs.Running.{packed, unpacked, shareFits, sharesFit, refusedRun, running};
 

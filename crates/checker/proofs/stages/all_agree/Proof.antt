@@ -4,7 +4,7 @@ use mathlib.Core.Bool.{true}
 use Prim.Native.Nat.{_-_, _≤_}
 use native.Mathlib.Omega.{arith}
 use borrow.Author.Needs.{needs}
-use Rattle.design.specs.StageLists.{listsOf}
+use Rattle.design.specs.inside.StageLists.{listsOf}
 use Rattle.checker.specs.Parts.{agreeing}
 use Rattle.checker.proofs.Agreeing.{agree-start, agree-wrong, agree-more, agree-end}
 use Rattle.checker.proofs.stages.all_agree.Statement.{statement}

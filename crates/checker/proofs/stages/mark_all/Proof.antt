@@ -1,7 +1,7 @@
 -- `mark_all` meets its contract: the outputs of the sharings passed are marked, none of them twice.
 use Prim.Native.Nat.{_-_, _^_}
 use borrow.Author.Needs.{needs}
-use Rattle.design.specs.StageLists.{listsOf}
+use Rattle.design.specs.inside.StageLists.{listsOf}
 use Rattle.threshold.specs.Stages.{output}
 use Rattle.checker.proofs.Marking.{Run, run-start, run-inside, run-found, run-rest, run-step, run-none}
 use Rattle.checker.proofs.stages.mark_all.Statement.{statement}
