@@ -56,7 +56,7 @@ module _ (f : List ℕ) (l : Layout) (a : l ≡ layoutOf f) where
   layout-means d e = a ∙ ap (layoutOfReading f) e
 
   -- a file that the definition reads is answered with reason 0
-  pub answers-zero : (d : Design) → reading f ≡ means d → l .reason ≡ 0
+  answers-zero : (d : Design) → reading f ≡ means d → l .reason ≡ 0
   answers-zero d e = ap (λ (x : Layout). x .reason) (layout-means d e)
 
   pub answers-described : l .reason ≡ 0 → Describes f l

@@ -7,7 +7,7 @@ use native.Mathlib.Omega.{arith}
 use native.Mathlib.Numerals.{add-one, towards-suc}
 use native.Mathlib.Nat.{zero-add}
 use lib.ListN.{length, getD, set, take, drop, length-append, length-set}
-use lib.Seq.{sets, sets-eq, paste, paste-zero, paste-suc, take-length, length-take-le, drop-drop, take-at, drop-at, take-append-seam, drop-append-seam, drop-append-add, length-paste}
+use lib.Seq.{sets, sets-eq, paste, paste-zero, paste-suc, take-length, length-take-le, drop-drop, take-at, drop-at}
 use Rattle.finite.proofs.Counting.{total-congr}
 use Rattle.finite.specs.Tests.{total}
 use Rattle.design.specs.inside.Overwriting.{overwrite}
