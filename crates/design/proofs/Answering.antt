@@ -15,7 +15,8 @@ use Rattle.design.specs.Bytes.{byte, u16At}
 use Rattle.design.specs.Layout.{noStarts, startOf, startsTo, refusedLayout, layoutOf}
 use Rattle.design.specs.inside.Described.{Limits}
 use Rattle.design.specs.Limits.{greatestRecords, broken, checked}
-use Rattle.design.specs.Reading.{lastOf, frameFault, faultAt, refused, means, reading, walk, place, headOf, meaning}
+use Rattle.design.specs.Reading.{lastOf, faultAt, refused, means, reading, walk, place, headOf, meaning}
+use Rattle.design.specs.inside.Framing.{frameFault}
 use Rattle.design.specs.declared.Head.{Head}
 use Rattle.design.specs.declared.Layout.{Layout}
 use Rattle.design.specs.declared.Checked.{Checked}

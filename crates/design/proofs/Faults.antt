@@ -14,7 +14,8 @@ use Rattle.finite.specs.Faults.{firstFault}
 use Rattle.finite.proofs.Testing.{all-fails, all-more}
 use Rattle.anf.specs.Terms.{before}
 use Rattle.design.specs.Bytes.{u16At, u32At}
-use Rattle.design.specs.Reading.{kindDue, sizeDue, lengthDue, frameFault, entryFits, previous, termFits, faultAt}
+use Rattle.design.specs.Reading.{kindDue, sizeDue, lengthDue, entryFits, previous, termFits, faultAt}
+use Rattle.design.specs.inside.Framing.{frameFault}
 use Rattle.design.specs.declared.Head.{Head}
 use Rattle.design.proofs.Records.{framed, entry-high, entry-fits, term-falls, term-high, term-fits, previous-more, fault-frame, fault-body, fault-table, fault-list, body-4, kind-later}
 

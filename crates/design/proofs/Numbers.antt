@@ -1,4 +1,4 @@
--- The numbers that `pair`, `word` and `power` answer, over plain values.
+-- The numbers that `pair` and `word` answer, over plain values.
 -- Assumes nothing.
 use Prim.Native.Nat.{ℕ, _+_, _*_, _<_}
 use mathlib.Core.Path.{_≡_}

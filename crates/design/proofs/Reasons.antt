@@ -17,12 +17,12 @@ use Rattle.finite.proofs.Faults.{fault-cases}
 use Rattle.anf.specs.Terms.{before}
 use Rattle.design.specs.Limits.{greatestTerms, broken}
 use Rattle.design.specs.Bytes.{u16At}
-use Rattle.design.specs.Reading.{refused, means, lastOf, headOf, kindDue, sizeDue, lengthDue, entryFits, termFits, previous, bodyFault, faultAt, meaning, place, walk, reading}
+use Rattle.design.specs.Reading.{refused, means, lastOf, headOf, kindDue, sizeDue, lengthDue, entryFits, termFits, previous, faultAt, meaning, place, walk, reading}
 use Rattle.design.specs.Refused.{WithinLimits, LengthFits, TermFits, RecordStands, RecordFits, FitBefore, Reached, termAt}
 use Rattle.design.specs.Refused.{RefusedFor, head-cut, kind-wrong, length-wrong, body-cut, limit-broken, entry-high, term-wrong, bytes-follow}
 use Rattle.design.specs.declared.Head.{Head}
 use Rattle.design.proofs.Limits.{bounds}
-use Rattle.design.proofs.Records.{Framed, body-1, body-2, body-3, body-none, fault-framed, pick-passed, pick-missed, previous-more, entry-below, entry-not, body-4}
+use Rattle.design.proofs.Records.{bodyFault, Framed, body-1, body-2, body-3, body-none, fault-framed, pick-passed, pick-missed, previous-more, entry-below, entry-not, body-4}
 use Rattle.design.proofs.Written.{list-size}
 use Rattle.design.proofs.Walking.{place-next}
 

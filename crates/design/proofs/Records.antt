@@ -15,7 +15,8 @@ use Rattle.finite.proofs.Testing.{and-false-right}
 use Rattle.finite.proofs.Faults.{no-fault, fault-front, fault-past}
 use Rattle.anf.specs.Terms.{before}
 use Rattle.design.specs.Bytes.{byte, u16At, u32At}
-use Rattle.design.specs.Reading.{lastOf, kindDue, sizeDue, lengthDue, frameFaults, frameFault, entryFits, previous, termFits, bodyFaults, bodyFault, faultAt}
+use Rattle.design.specs.Reading.{lastOf, kindDue, sizeDue, lengthDue, frameFaults, entryFits, previous, termFits, bodyFaults, faultAt}
+use Rattle.design.specs.inside.Framing.{frameFault}
 use Rattle.design.specs.declared.Head.{Head}
 use Rattle.design.specs.Limits.{broken}
 use Rattle.design.proofs.Limits.{head-number}
@@ -75,6 +76,10 @@ framed f at kind size e =
     let h : 4 ≤ length f - at = ltb-false _ _ (a .0) in
     let l : u16At f at ≤ length f - at - 4 = ltb-false _ _ (d .0) in
     record { head = omega arith; kind = eqb-true _ _ (not-false _ (b .0)); size = not-false _ (c .0); rest = omega arith }
+
+-- the first fault of a body of n bytes from start, or 0
+unfoldable pub bodyFault : List ℕ → Head → ℕ → ℕ → ℕ → ℕ
+bodyFault f h kind start n = firstFault (bodyFaults f h kind start n) 0
 
 pick-twice : (b : Bool) (x y z : ℕ) → pick b (pick b x y) z ≡ pick b x z
 pick-twice true x y z = refl

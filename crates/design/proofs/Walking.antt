@@ -11,7 +11,8 @@ use lib.ListN.{length}
 use Rattle.finite.specs.Tests.{pick}
 use Rattle.design.specs.Bytes.{byte, u16At}
 use Rattle.design.specs.Limits.{broken}
-use Rattle.design.specs.Reading.{lastOf, kindDue, sizeDue, lengthDue, frameFault, faultAt, refused, means, reading, walk, place, headOf, meaning}
+use Rattle.design.specs.Reading.{lastOf, kindDue, sizeDue, lengthDue, faultAt, refused, means, reading, walk, place, headOf, meaning}
+use Rattle.design.specs.inside.Framing.{frameFault}
 use Rattle.design.specs.declared.Head.{Head}
 use Rattle.design.proofs.Records.{framed, fault-frame, fault-body, body-1, fault-framed}
 

@@ -91,14 +91,7 @@ bodyFaults f h kind start n =
     onlyOf 3 kind (not (all (n / 4) (termFits f start (2 ^ (h .m * h .s)))), 6) ∷
     []
 
--- the first fault of its head and length, and of its body; 0 where there is none
-unfoldable pub frameFault : List ℕ → ℕ → ℕ → ℕ → ℕ
-frameFault f at kind size = firstFault (frameFaults f at kind size) 0
-
-unfoldable pub bodyFault : List ℕ → Head → ℕ → ℕ → ℕ → ℕ
-bodyFault f h kind start n = firstFault (bodyFaults f h kind start n) 0
-
--- the first fault of record i, which starts at `at`
+-- the first fault of record i, which starts at `at`, or 0
 unfoldable pub faultAt : List ℕ → Head → ℕ → ℕ → ℕ
 faultAt f h i at =
     firstFault (frameFaults f at (kindDue h i) (sizeDue h (kindDue h i)) ++ bodyFaults f h (kindDue h i) (at + 4) (u16At f at)) 0

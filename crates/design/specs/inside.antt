@@ -1,4 +1,5 @@
 -- What contracts inside the library need: no published contract and no promise speaks of it.
 pub mod Described
+pub mod Framing
 pub mod StageLists
 pub mod Overwriting

@@ -17,7 +17,8 @@ ghost use lib.ListN.{length};
 ghost use Rattle.finite.specs.Tests.{all};
 ghost use Rattle.anf.specs.Terms.{before};
 ghost use Rattle.design.specs.Limits.{greatestRecords};
-ghost use Rattle.design.specs.Reading.{headOf, lastOf, kindDue, sizeDue, lengthDue, frameFault, entryFits, termFits, faultAt};
+ghost use Rattle.design.specs.Reading.{headOf, lastOf, kindDue, sizeDue, lengthDue, entryFits, termFits, faultAt};
+ghost use Rattle.design.specs.inside.Framing.{frameFault};
 ghost use Rattle.design.specs.Layout.{refusedLayout, layoutOf};
 ghost use Rattle.design.specs.inside.Described.{Limits};
 
