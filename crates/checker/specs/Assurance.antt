@@ -1,4 +1,5 @@
--- The assurance: what follows where the verdict on a file has reason 0. It counts over the definitions of sharings, stages and runs.
+-- The assurance: what follows where the verdict on a file has reason 0 (the paper's "Reviewer's checklist", demand 3). It counts over the definitions of
+-- sharings, stages and runs.
 use Prim.Native.Nat.{ℕ, _-_, _*_, _^_, _<_}
 use mathlib.Core.Path.{_≡_}
 use mathlib.Core.Bool.{Bool, true, _&&_}
@@ -13,7 +14,7 @@ use Rattle.design.specs.Reading.{means, reading}
 use Rattle.threshold.specs.Sharing.{sum, setting}
 use Rattle.threshold.specs.Stages.{component}
 use Rattle.threshold.specs.Chain.{handed, meetings}
-use Rattle.threshold.specs.Running.{packed, unpacked, sharesFit, fiveSum, outputShares, running}
+use Rattle.threshold.specs.Running.{sharesFit, fiveSum, asNumber, asBytes, outputShares, running}
 
 -- five bytes are a sharing of x: used shares are below 2^m, unused ones zero, and they sum to x
 pub record Shares (d : Design) (x : ℕ) (l : List ℕ) : Type 0 where
@@ -25,11 +26,9 @@ pub record Shares (d : Design) (x : ℕ) (l : List ℕ) : Type 0 where
 -- round; and a run on the bytes of a number answers 0 and the bytes of what the last stage makes of that number.
 pub record OneSharing (f : List ℕ) (d : Design) : Type 0 where
   pub number : (x : ℕ) (l : List ℕ) → Shares d x l
-      → (packed (d .m) (d .s) l < 2 ^ (d .m * d .s)) × (sum (d .m) (d .s) (packed (d .m) (d .s) l) ≡ x) × (unpacked (d .m) (d .s) (packed (d .m) (d .s) l) ≡ l)
-  pub bytes : (σ : ℕ) → σ < 2 ^ (d .m * d .s)
-      → Shares d (sum (d .m) (d .s) σ) (unpacked (d .m) (d .s) σ) × (packed (d .m) (d .s) (unpacked (d .m) (d .s) σ) ≡ σ)
-  pub run : (σ : ℕ) → σ < 2 ^ (d .m * d .s)
-      → running f (unpacked (d .m) (d .s) σ) ≡ record { reason = 0; shares = unpacked (d .m) (d .s) (handed (d .stages) (d .k) σ) }
+      → (asNumber d l < 2 ^ (d .m * d .s)) × (sum (d .m) (d .s) (asNumber d l) ≡ x) × (asBytes d (asNumber d l) ≡ l)
+  pub bytes : (σ : ℕ) → σ < 2 ^ (d .m * d .s) → Shares d (sum (d .m) (d .s) σ) (asBytes d σ) × (asNumber d (asBytes d σ) ≡ σ)
+  pub run : (σ : ℕ) → σ < 2 ^ (d .m * d .s) → running f (asBytes d σ) ≡ record { reason = 0; shares = asBytes d (handed (d .stages) (d .k) σ) }
 
 -- The file f reads as d, and for every secret x below 2^m:
 --   for every stage i, component j and setting q of the s - 1 shares that it may read, the meetings are exactly 1;

@@ -155,7 +155,7 @@ module _ (m p : ℕ) (e : p ≡ 2 ^ m) where
   some-values = omega (arith, pow-pos m)
 
   pub ones-fit : m ≤ greatestWidth → p - 1 < 2 ^ 32
-  ones-fit h = let q : 2 ^ m ≤ 2 ^ 6 = pow-mono h in omega arith
+  ones-fit h = let q : 2 ^ m ≤ 2 ^ greatestWidth = pow-mono h in omega arith
 
 -- ---- `sum_of`: total is the sum of the shares passed, rest holds those left
 

@@ -15,7 +15,7 @@ use Rattle.design.specs.declared.Layout.{Layout}
 use Rattle.design.proofs.Answered.{described}
 use Rattle.threshold.specs.Stages.{output}
 use Rattle.threshold.specs.Chain.{handed}
-use Rattle.threshold.specs.Running.{packed, unpacked, sharesFit, outputShares, refusedRun, finishedRun, runningOn, running}
+use Rattle.threshold.specs.Running.{packed, unpacked, sharesFit, asBytes, outputShares, refusedRun, finishedRun, runningOn, running}
 use Rattle.threshold.proofs.Stages.{stage-output-lt}
 use Rattle.threshold.proofs.Packing.{packed-lt, packed-unpacked, unpacked-packed, unpacked-fits, share-fits}
 
@@ -83,10 +83,10 @@ running-success f l d e u = running-as f l (means d) e ∙ pick-true (sharesFit 
 
 -- the run on the five bytes of a sharing answers 0 and the five bytes of what the last stage gives
 pub running-sharing : (f : List ℕ) (d : Design) → reading f ≡ means d → d .s ≤ greatestShares → (σ : ℕ) → σ < 2 ^ (d .m * d .s)
-    → running f (unpacked (d .m) (d .s) σ) ≡ record { reason = 0; shares = unpacked (d .m) (d .s) (handed (d .stages) (d .k) σ) }
+    → running f (asBytes d σ) ≡ record { reason = 0; shares = asBytes d (handed (d .stages) (d .k) σ) }
 running-sharing f d e hs σ l =
-    running-success f (unpacked (d .m) (d .s) σ) d e (unpacked-fits (d .m) (d .s) σ hs)
-    ∙ ap (λ (x : ℕ). record { reason = 0; shares = unpacked (d .m) (d .s) (handed (d .stages) (d .k) x) }) (packed-unpacked (d .m) (d .s) σ hs l)
+    running-success f (asBytes d σ) d e (unpacked-fits (d .m) (d .s) σ hs)
+    ∙ ap (λ (x : ℕ). record { reason = 0; shares = asBytes d (handed (d .stages) (d .k) x) }) (packed-unpacked (d .m) (d .s) σ hs l)
 
 -- code that has sent the shares through the last stage has the answer
 pub sent-end : (f l at : List ℕ) (y : Layout) (d : Describes f y) (t : ℕ) → t ≡ y .head .k → sharesFit (y .head .m) (y .head .s) l ≡ true

@@ -20,8 +20,8 @@ use Rattle.design.specs.Reading.{meaning}
 use Rattle.design.specs.Layout.{layoutOf}
 use Rattle.design.specs.inside.Described.{Describes}
 use Rattle.design.specs.declared.Layout.{Layout}
-use Rattle.design.proofs.Answered.{described, answers-described, refuses}
-use Rattle.design.proofs.Found.{shares-high}
+use Rattle.design.proofs.Answered.{answers-described, refuses}
+use Rattle.design.proofs.Found.{width-high, shares-high}
 use Rattle.design.proofs.StageLists.{stages-length, lists-length}
 use Rattle.threshold.specs.Stages.{output, component}
 use Rattle.threshold.specs.Running.{packed, unpacked, shareFits, sharesFit, fiveZeros, refusedRun, running}
@@ -98,10 +98,10 @@ out-start w ls x = record { is = refl }
 
 module _ (f : List ℕ) (y : Layout) (d : Describes f y) where
   pub share-byte : (v : ℕ) → v < 2 ^ y .head .m → Fits w8 v
-  share-byte v h = record { fits = let q : 2 ^ y .head .m ≤ 2 ^ 6 = pow-mono (described d .bounds .m-high) in omega arith }
+  share-byte v h = record { fits = let q : 2 ^ y .head .m ≤ 2 ^ greatestWidth = pow-mono (width-high f y d) in omega arith }
 
   module _ (j : ℕ) (h : j < y .head .s) where
-    pub place-of-five : j < 5
+    pub place-of-five : j < greatestShares
     place-of-five = omega (arith, shares-high f y d)
 
     pub turn-fits : Fits w64 (j + 1)
@@ -131,14 +131,14 @@ pub record RunTo (f : List ℕ) (y : Layout) (l at : List ℕ) (t : ℕ) : Type 
   pub sent : Sent (y .head .m) (y .head .s) (meaning f .stages) l at t
 
 module _ (f : List ℕ) (y : Layout) (a : y ≡ layoutOf f) (z : y .reason ≡ 0) where
-  pub few-wide : y .head .m ≤ greatestWidth
-  few-wide = described (answers-described f y a z) .bounds .m-high
+  pub read-width : y .head .m ≤ greatestWidth
+  read-width = width-high f y (answers-described f y a z)
 
   module _ (l : List ℕ) (b : Bool) (eb : b ≡ sharesFit (y .head .m) (y .head .s) l) where
     pub unfit : not b ≡ true → (v : Ran) → v ≡ refusedRun 15 → v ≡ running f l
     unfit h v e = e ∙ sym (unfit-end f l y (answers-described f y a z) (sym eb ∙ not-true b h))
 
-    pub run-start : not b ≡ false → length l ≡ 5 → RunTo f y l l 0
+    pub run-start : not b ≡ false → length l ≡ greatestShares → RunTo f y l l 0
     run-start h n =
         let d = answers-described f y a z in
         let u = sym eb ∙ not-false b h in

@@ -1,5 +1,5 @@
--- A chain of stages, of the paper's section "Terms of threshold implementation": what its tables make of a value, what each stage is handed, and the
--- meetings of a setting.
+-- A chain of stages: what its tables make of a value, what each stage is handed, and the meetings of a setting (the paper's "Terms of threshold
+-- implementation").
 use Prim.Native.Nat.{ℕ, zero, suc, _*_, _^_}
 use mathlib.Core.Bool.{_&&_}
 use mathlib.Core.List.{List, [], _∷_}

@@ -1,4 +1,4 @@
--- The paper's section "Running a chain": on five shares, the greatest number of them; bytes that travel together, unused ones zero.
+-- Running a chain on five shares, the greatest number of them: bytes that travel together, unused ones zero (the paper's "Running a chain").
 use Prim.Native.Nat.{ℕ, _*_, _^_}
 use mathlib.Core.Bool.{Bool}
 use mathlib.Core.List.{List, [], _∷_}
@@ -28,20 +28,27 @@ shareFits w s j v = pick (ltb j s) (ltb v (2 ^ w)) (eqb v 0)
 unfoldable pub sharesFit : ℕ → ℕ → List ℕ → Bool
 sharesFit w s l = all greatestShares (λ j. shareFits w s j (getD l j 0))
 
-abbrev pub fiveZeros : List ℕ
-fiveZeros = 0 ∷ 0 ∷ 0 ∷ 0 ∷ 0 ∷ []
-
 -- the sum of five shares
 abbrev pub fiveSum : List ℕ → ℕ
 fiveSum l = xorBelow greatestShares (λ j. getD l j 0)
+
+abbrev pub fiveZeros : List ℕ
+fiveZeros = 0 ∷ 0 ∷ 0 ∷ 0 ∷ 0 ∷ []
 
 -- a refusal answers its number and five zeros
 abbrev pub refusedRun : ℕ → Ran
 refusedRun r = record { reason = r; shares = fiveZeros }
 
+-- the sharing of a design that five bytes are, and the five bytes of a sharing
+abbrev pub asNumber : Design → List ℕ → ℕ
+asNumber d l = packed (d .m) (d .s) l
+
+abbrev pub asBytes : Design → ℕ → List ℕ
+asBytes d σ = unpacked (d .m) (d .s) σ
+
 -- the output shares that the last stage gives when the shares l are sent through, unused ones zero
 abbrev pub outputShares : Design → List ℕ → List ℕ
-outputShares d l = unpacked (d .m) (d .s) (handed (d .stages) (d .k) (packed (d .m) (d .s) l))
+outputShares d l = asBytes d (handed (d .stages) (d .k) (asNumber d l))
 
 -- success answers 0 and the output shares
 abbrev pub finishedRun : Design → List ℕ → Ran

@@ -1,5 +1,5 @@
--- Sharings, of the paper's section "Terms of threshold implementation". A sharing of width w in s shares is a number below 2^(w × s); share 0 is its
--- lowest w bits, share 1 the next. (In answers shares and components are counted from 1.)
+-- Sharings (the paper's "Terms of threshold implementation"). A sharing of width w in s shares is a number below 2^(w × s); share 0 is its lowest w
+-- bits, share 1 the next. In answers shares and components are counted from 1.
 use Prim.Native.Nat.{ℕ, _+_, _*_, _/_, _%_, _^_}
 use Rattle.finite.specs.Sums.{xorBelow}
 

@@ -1,5 +1,4 @@
--- A stage as functions: its components, and what correct, non-complete and uniform mean of them, in the paper's section "Terms of threshold
--- implementation".
+-- A stage as functions: its components, and what correct, non-complete and uniform mean of them (the paper's "Terms of threshold implementation").
 use Prim.Native.Nat.{ℕ, _+_, _*_, _^_, _<_}
 use mathlib.Core.Path.{_≡_}
 use mathlib.Core.Bool.{Bool, _&&_, not}
@@ -53,7 +52,7 @@ abbrev pub CountedUniform : ℕ → ℕ → (ℕ → ℕ) → List ℕ → Type 
 CountedUniform w s out g =
     (τ : ℕ) → τ < 2 ^ (w * s) → count (2 ^ (w * s)) (λ σ. eqb (out σ) τ) ≡ count (2 ^ w) (λ x. eqb (entry g x) (sum w s τ))
 
--- ---- The same as tests of a stage, for the section "Verdict".
+-- ---- The same as tests of a stage (the paper's "Verdict").
 
 unfoldable pub correct : ℕ → ℕ → Stage → Bool
 correct w s g = all (2 ^ (w * s)) (λ σ. eqb (sum w s (output (g .lists) σ)) (entry (g .table) (sum w s σ)))

@@ -1,2 +1,2 @@
--- What only contracts inside the crates need: no promise rests on it.
+-- What only contracts inside the crates need: no published contract and no promise rests on it.
 pub mod Variables

@@ -1,4 +1,5 @@
 // Running stages and chains on five shares, the greatest number of them.
+use super::FiveShares;
 use super::Ran;
 use super::engine::component_at;
 use design::Head;
@@ -24,7 +25,7 @@ fn share_fits(share: u8, j: usize, m: usize, s: usize) -> bool
     share == 0
 }
 
-fn shares_fit(shares: [u8; 5], m: usize, s: usize) -> bool
+fn shares_fit(shares: FiveShares, m: usize, s: usize) -> bool
     requires { ⌜ m ≤ greatestWidth ⌝ }
     ensures { λ r. ⌜ r ≡ sharesFit m s shares ⌝ }
 {
@@ -47,7 +48,7 @@ fn placed(share: u8, e: usize) -> u32
 }
 
 // Five shares as one number.
-fn pack(shares: [u8; 5], m: usize, s: usize) -> u32
+fn pack(shares: FiveShares, m: usize, s: usize) -> u32
     requires { ⌜ (m * s ≤ greatestShareBits) × (s ≤ greatestShares) × (sharesFit m s shares ≡ true) ⌝ }
     ensures { λ r. ⌜ (r ≡ packed m s shares) × (r < 2 ^ (m * s)) ⌝ }
 {
@@ -61,12 +62,12 @@ fn pack(shares: [u8; 5], m: usize, s: usize) -> u32
 }
 
 // Stage `t` run on five shares: each component fills one place.
-pub fn run_stage(file: &[u8], layout: Layout, t: usize, shares: [u8; 5]) -> [u8; 5]
+pub fn run_stage(file: &[u8], layout: Layout, t: usize, shares: FiveShares) -> FiveShares
     requires { ⌜ Describes (now file) layout × (t < layout .head .k) × (sharesFit (layout .head .m) (layout .head .s) shares ≡ true) ⌝ }
     ensures { λ r. ⌜ r ≡ unpacked (layout .head .m) (layout .head .s) (output (stageOf (meaning (now (file .entry))) t .lists) (packed (layout .head .m) (layout .head .s) shares)) ⌝ }
 {
     let x = pack(shares, layout.head.m, layout.head.s);
-    let mut out = [0u8; 5];
+    let mut out = [0u8; Head::GREATEST_SHARES];
     let mut j = 0;
     while j < layout.head.s {
         out[j] = component_at(file, layout, t, j, x) as u8;
@@ -80,12 +81,12 @@ fn refuse(reason: usize) -> Ran
 {
     Ran {
         reason,
-        shares: [0u8; 5],
+        shares: [0u8; Head::GREATEST_SHARES],
     }
 }
 
 // Runs the chain of a file on five shares.
-pub fn run(file: &[u8], shares: [u8; 5]) -> Ran
+pub fn run(file: &[u8], shares: FiveShares) -> Ran
     ensures { λ r. ⌜ r ≡ running (now (file .entry)) shares ⌝ }
 {
     let layout = design::read(file);

@@ -1,4 +1,4 @@
--- The variables of a share, for the test of non-completeness by term lists. Only contracts inside need it, and no promise rests on it.
+-- The variables of a share, for the test of non-completeness by term lists. Only contracts inside need them: no promise rests on them.
 use Prim.Native.Nat.{ℕ, _-_, _*_, _^_}
 
 -- the variables of share j, as a set

@@ -2,7 +2,7 @@
 use Prim.Native.Nat.{_-_, _≤_}
 use native.Mathlib.Omega.{arith}
 use borrow.Author.Needs.{needs}
-use Rattle.threshold.proofs.Sending.{RunTo, unread, few-wide, unfit, run-start, run-fits, run-more, run-end}
+use Rattle.threshold.proofs.Sending.{RunTo, unread, read-width, unfit, run-start, run-fits, run-more, run-end}
 use Rattle.threshold.proofs.runs.run.Statement.{statement}
 use Rattle.threshold.proofs.runs.run.Tie as tie
 
@@ -21,7 +21,7 @@ run-spec =
     (λ c κs. search needs)
     (λ c κs. search needs)
     (λ c. search unread)
-    (λ c κs. search few-wide)
+    (λ c κs. search read-width)
     (λ c κs. search needs)
     (λ c. search unfit)
     (λ c. search (arith, run-start))
