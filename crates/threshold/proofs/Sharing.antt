@@ -127,14 +127,7 @@ module _ (w j : ℕ) where
   put-share-setting σ =
       rw (part-div, part-mod, div-add-mod' (σ / 2 ^ (w * j)) (2 ^ w)) (div-add-mod' σ (2 ^ (w * j)))
 
-  -- a share and a setting tell the sharing
-  pub share-and-setting : (σ τ : ℕ) → share w j σ ≡ share w j τ → setting w j σ ≡ setting w j τ → σ ≡ τ
-  share-and-setting σ τ e d = sym (put-share-setting σ) ∙ ap₂ (putShare w j) e d ∙ put-share-setting τ
-
   -- a change of share j alone
-  pub share-with : (v σ : ℕ) → v < 2 ^ w → share w j (withShare w j v σ) ≡ v
-  share-with v σ h = share-put v (setting w j σ) h
-
   pub setting-with : (v σ : ℕ) → v < 2 ^ w → setting w j (withShare w j v σ) ≡ setting w j σ
   setting-with v σ h = setting-put v (setting w j σ) h
 
