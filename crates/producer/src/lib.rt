@@ -66,8 +66,7 @@ fn produce_permutation(m: usize, s: usize, table: &[u8], output: &mut [u8]) -> P
     ensures { λ r. ⌜ r ≡ producing m s (now (table .entry)) (length (now (output .entry))) ⌝ }
     ensures { λ _. ⌜ now (output .exit) ≡ outputAfter m s (now (table .entry)) (now (output .entry)) ⌝ }
 {
-    // 2 to the power of the greatest width
-    let mut words = [0u8; 64];
+    let mut words = [0u8; 1 << Head::GREATEST_WIDTH];
     to_coefficients(m, table, &mut words);
     let degree = words_degree(&words[0..table.len()]);
     if s <= degree {
