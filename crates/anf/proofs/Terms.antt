@@ -3,7 +3,7 @@
 use mathlib.Core.Path.{_≡_, refl, sym, ap, _∙_}
 use mathlib.Core.Logic.{_≢_}
 use mathlib.Core.Bool.{Bool, true, false, false≢true, not, _||_}
-use mathlib.Core.List.{List, [], _∷_, _++_, List·Memᴰ, List·Memᴰ·head, List·Memᴰ·tail}
+use mathlib.Core.List.{List, [], _∷_, _++_}
 use Prim.Native.Nat.{ℕ, zero, suc, _+_, _^_, _≤_, _<_}
 use native.Mathlib.Nat.{not-suc-le-zero, le-of-suc-le-suc}
 use native.Mathlib.Numerals.{add-one}
@@ -12,13 +12,14 @@ use native.Mathlib.Omega.{arith}
 use lib.Dec.{eqb}
 use lib.ListN.{length, getD}
 use lib.Bits.{bitAnd, bitXor, xor-zero-r, xor-lt, and-comm, and-self, xor-comm, xor-add-and}
-use borrow.Author.Tests.{eqb-true, eqb-false, eq-eqb, ltb-true, lt-ltb}
+use borrow.Author.Tests.{eqb-true, eqb-false, ltb-true, lt-ltb}
 use Rattle.finite.specs.Tests.{pick}
 use Rattle.finite.specs.Sets.{subset}
+use Rattle.finite.proofs.Testing.{or-left, or-right, or-none}
 use Rattle.finite.proofs.Xor.{xor-assoc, xor-left-comm, xor-left-cancel, xor-ring, and-assoc, and-xor, xor-and}
 use Rattle.finite.proofs.Sums.{pick-lt}
 use Rattle.finite.proofs.Subsets.{subset-self, subset-gt, subset-iff}
-use Rattle.anf.specs.Terms.{valueAt, before, TermList, names, clear, Depends}
+use Rattle.anf.specs.Terms.{valueAt, before, TermList, named, names, clear, Depends}
 
 -- strictly rising, from lo on and below hi
 abbrev pub Rising : ℕ → ℕ → List ℕ → Type 0
@@ -189,10 +190,15 @@ pub names-exactly : (n group : ℕ) (l : List ℕ) → TermList n l
     → (names group l ≡ true → Depends n group (valueAt l)) × (Depends n group (valueAt l) → names group l ≡ true)
 names-exactly n group l t = (names-depends n group l t, depends-names n group l)
 
--- ---- what a list names, by its members
+-- ---- what a list names, term by term
 
-pub names-none : (group : ℕ) (l : List ℕ) → ((t : ℕ) → List·Memᴰ t l → bitAnd t group ≡ 0) → names group l ≡ false
+pub names-at : (group : ℕ) (ts : List ℕ) (i : ℕ) → i < length ts → named group (getD ts i 0) ≡ true → names group ts ≡ true
+unfolding names
+names-at group [] i l e = absurd (not-suc-le-zero l)
+names-at group (t ∷ ts) zero l e = or-left _ _ e
+names-at group (t ∷ ts) (suc i) l e = or-right (named group t) (names group ts) (names-at group ts i (le-of-suc-le-suc l) e)
+
+pub names-none : (group : ℕ) (ts : List ℕ) → ((i : ℕ) → i < length ts → named group (getD ts i 0) ≡ false) → names group ts ≡ false
 unfolding names
 names-none group [] h = refl
-names-none group (a ∷ l) h =
-    rw (eq-eqb (bitAnd a group) 0 (h a (List·Memᴰ·head refl))) (names-none group l (λ t k. h t (List·Memᴰ·tail k)))
+names-none group (t ∷ ts) h = or-none (h 0 (omega arith)) (names-none group ts (λ i l. h (suc i) (omega arith)))

@@ -24,10 +24,14 @@ pub record TermList (n : ℕ) (ts : List ℕ) : Type 0 where
   pub below : (j : ℕ) → j < length ts → getD ts j 0 < 2 ^ n
   pub rising : (j : ℕ) → j + 1 < length ts → before (getD ts j 0) (getD ts (j + 1) 0) ≡ true
 
--- some term names a variable of the group
+-- a term names a variable of the group
+abbrev pub named : ℕ → ℕ → Bool
+named group t = not (eqb (bitAnd t group) 0)
+
+-- some term of a list does
 unfoldable pub names : ℕ → List ℕ → Bool
 names group [] = false
-names group (t ∷ ts) = not (eqb (bitAnd t group) 0) || names group ts
+names group (t ∷ ts) = named group t || names group ts
 
 -- x without the variables of the group
 abbrev pub clear : ℕ → ℕ → ℕ

@@ -14,13 +14,13 @@ use Rattle.threshold.specs.Sharing.{sum}
 use Rattle.threshold.specs.Stages.{component}
 use Rattle.threshold.specs.Chain.{handed, chained}
 use Rattle.threshold.specs.Running.{packed}
+use Rattle.threshold.proofs.Tables.{chain-tables}
 use Rattle.threshold.proofs.Meetings.{AllBijective, met-once, outcome, test-independent, value-independent}
 use Rattle.threshold.proofs.Packing.{share-fits, packed-lt, packed-sum, packed-unpacked, unpacked-packed, unpacked-length, unpacked-fits, unpacked-sum}
 use Rattle.threshold.proofs.Running.{running-success, running-sharing}
 use Rattle.checker.specs.Verdict.{verdict}
 use Rattle.checker.specs.Accepted.{Accepted}
 use Rattle.checker.specs.Assurance.{OneSharing, Assured, Blind}
-use Rattle.checker.proofs.Permutations.{chain-tables}
 use Rattle.checker.proofs.Exactly.{reason-zero}
 
 module _ (f : List ℕ) (n : ℕ) (d : Design) (a : Accepted f n d) where

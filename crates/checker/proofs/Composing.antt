@@ -1,13 +1,12 @@
 -- The laws of the functions of tables.rt over plain values, at each way out and for a turn: bytes that are filled from their start, tables composed, and S.
 -- Assumes nothing.
 use mathlib.Core.Path.{_≡_, refl, sym, ap, _∙_, subst}
-use mathlib.Core.List.{List, [], _∷_}
-use Prim.Native.Nat.{ℕ, zero, suc, _+_, _^_, _<_, _≤_}
-use native.Mathlib.Nat.{not-suc-le-zero, le-of-suc-le-suc, lt-irrefl}
-use native.Mathlib.Numerals.{add-one}
+use mathlib.Core.List.{List}
+use Prim.Native.Nat.{ℕ, _+_, _^_, _<_, _≤_}
+use native.Mathlib.Nat.{not-suc-le-zero, lt-irrefl}
 use native.Mathlib.Omega.{arith}
 use lib.ListN.{length, getD, set, take, length-set}
-use lib.Seq.{getD-set-same, getD-set-other, take-length}
+use lib.Seq.{getD-set-same, getD-set-other}
 use lib.Pow.{pow-mono}
 use lib.Dec.{eqb}
 use mathlib.Core.Bool.{true, false}
@@ -15,16 +14,17 @@ use borrow.Author.Tests.{eq-eqb, ne-eqb}
 use Rattle.finite.specs.Tests.{all}
 use Rattle.finite.proofs.Testing.{all-more, all-fails}
 use Rattle.anf.specs.Tables.{entry}
-use Rattle.design.specs.Design.{Stage, noStage, stageOf}
+use Rattle.design.specs.Design.{stageOf}
 use Rattle.design.specs.Reading.{meaning}
 use Rattle.design.specs.inside.Described.{Describes}
 use Rattle.design.specs.declared.Layout.{Layout}
 use Rattle.design.proofs.Answered.{described}
 use Rattle.threshold.specs.Chain.{chained}
 use Rattle.checker.specs.Verdict.{chainIsBox}
-use Rattle.checker.specs.Parts.{Composes}
-use Rattle.checker.proofs.Repeating.{table-size}
+use Rattle.checker.specs.inside.Parts.{Composes}
+use Rattle.checker.proofs.StageFacts.{table-size}
 use borrow.Author.Count.{below-more}
+use Rattle.threshold.proofs.Tables.{chained-none, chained-lt, chained-next, chained-all}
 
 -- ---- 64 bytes that are filled from their start: those before place x hold what g says
 
@@ -67,35 +67,6 @@ module _ (table from : List ℕ) (x n : ℕ) (h : x < n) (y : ℕ) (e : y ≡ ge
 
 pub through-end : (table from l : List ℕ) (x n : ℕ) → Filled (throughAt table from) l x → x ≤ n → n ≤ x → (y : ℕ) → y < n → getD l y 0 ≡ getD table (getD from y 0) 0
 through-end table from l x n so up low y h = filled-end (throughAt table from) l x n so up low y h
-
-chained-suc : (gs : List Stage) (t x : ℕ) → t < length gs → chained (take (suc t) gs) x ≡ entry (getD gs t noStage .table) (chained (take t gs) x)
-unfolding chained
-chained-suc [] t x l = absurd (not-suc-le-zero l)
-chained-suc (g ∷ gs) zero x l = refl
-chained-suc (g ∷ gs) (suc t) x l = chained-suc gs t (entry (g .table) x) (le-of-suc-le-suc l)
-
--- one table more
-pub chained-next : (gs : List Stage) (t x : ℕ) → t < length gs → chained (take (t + 1) gs) x ≡ entry (getD gs t noStage .table) (chained (take t gs) x)
-chained-next gs t x l = rw add-one (chained-suc gs t x l)
-
-pub chained-none : (gs : List Stage) (x : ℕ) → chained (take 0 gs) x ≡ x
-unfolding chained
-chained-none gs x = refl
-
-pub chained-all : (gs : List Stage) (t x : ℕ) → t ≡ length gs → chained (take t gs) x ≡ chained gs x
-chained-all gs t x e = ap (λ (l : List Stage). chained l x) (ap (λ (n : ℕ). take n gs) e ∙ take-length gs)
-
--- what the tables make of a number below N is below N
-pub chained-lt : (N : ℕ) (gs : List Stage) → ((t : ℕ) → t < length gs → (x : ℕ) → x < N → entry (getD gs t noStage .table) x < N)
-    → (t x : ℕ) → t ≤ length gs → x < N → chained (take t gs) x < N
-unfolding chained
-chained-lt N gs into zero x l h = h
-chained-lt N [] into (suc t) x l h = h
-chained-lt N (g ∷ gs) into (suc t) x l h =
-    chained-lt N gs (λ i k. into (suc i) (suc-le k)) t (entry (g .table) x) (le-of-suc-le-suc l) (into 0 (omega arith) x h)
-  where
-    suc-le : {a b : ℕ} → a < b → suc a < suc b
-    suc-le k = omega arith
 
 -- ---- `composed`: the first 2^m bytes hold what the tables of the first t stages make of their places
 

@@ -1,15 +1,14 @@
 -- Laws of the verdict.
-pub mod Zeroed
+pub mod Workspace
+pub mod StageFacts
 pub mod Marking
-pub mod Permutations
 pub mod Repeating
 pub mod Composing
 pub mod Agreeing
-pub mod Judging
-pub mod Uniform
+pub mod OwnShare
 pub mod Steps
-pub mod Answering
-pub mod Deciding
+pub mod JudgingStages
+pub mod JudgingDesign
 pub mod Exactly
 pub mod Assurance
 pub mod Bench

@@ -4,65 +4,39 @@ use mathlib.Core.Path.{_≡_, refl, sym, ap, _∙_, subst}
 use mathlib.Core.List.{List, _++_}
 use mathlib.Core.Bool.{Bool, true, false, _||_}
 use mathlib.Core.Logic.{_≢_}
-use Prim.Native.Nat.{ℕ, zero, suc, _+_, _-_, _*_, _/_, _%_, _^_, _<_, _≤_}
-use native.Mathlib.Nat.{div-self, zero-div, div-eq-of-lt, mul-mod-left, pow-suc, mod-lt, zero-lt-suc, one-mul}
-use native.Mathlib.Decide.{ℕ-discrete, decLt}
+use Prim.Native.Nat.{ℕ, _+_, _*_, _/_, _%_, _^_, _<_, _≤_}
+use native.Mathlib.Nat.{one-mul}
+use native.Mathlib.Decide.{ℕ-discrete}
 use native.Mathlib.Omega.{arith}
 use lib.Dec.{eqb, lit<}
 use lib.ListN.{length, getD, set, drop, replicate, length-set, List·getD-append, getD-replicate, length-replicate}
 use lib.Seq.{getD-set-same, getD-set-other, drop-set-lt, drop-at}
-use lib.Bits.{bitOr, or-shr, or-mod, or-zero-r}
-use lib.Pow.{pow-pos, pow-lt, pow-add, shl-shr, shl-exact}
+use lib.Bits.{bitOr}
+use lib.Pow.{shl-exact}
 use borrow.Author.Tests.{eq-eqb, ne-eqb}
+use borrow.Rule.Slice.Know.{Fit}
+use borrow.Table.Referent.{fInt}
+use mir.Syntax.{w8}
 use Rattle.finite.specs.Tests.{any}
 use Rattle.finite.specs.Maps.{repeats, metBefore}
 use Rattle.finite.proofs.Testing.{or-right, any-at, any-step, or-false-right}
-use Rattle.checker.specs.Marks.{marked, mark, Clear, zeroed}
-
--- ---- bits of a byte
-
-bit-or : (a b k : ℕ) → bitOr a b / 2 ^ k % 2 ≡ bitOr (a / 2 ^ k % 2) (b / 2 ^ k % 2)
-bit-or a b k = ap (λ (x : ℕ). x % 2) (or-shr a b k) ∙ or-mod (a / 2 ^ k) (b / 2 ^ k) 1
-
-bit-pow-same : (k : ℕ) → 2 ^ k / 2 ^ k % 2 ≡ 1
-bit-pow-same k = ap (λ (x : ℕ). x % 2) (div-self (pow-pos k))
-
-bit-pow-low : (k r : ℕ) → k < r → 2 ^ r / 2 ^ k % 2 ≡ 0
-bit-pow-low k r h =
-    let d = r - suc k in
-    let e : r ≡ suc d + k = omega arith in
-    ap (λ (x : ℕ). 2 ^ x / 2 ^ k % 2) e
-    ∙ ap (λ (x : ℕ). x / 2 ^ k % 2) (pow-add 2 (suc d) k)
-    ∙ ap (λ (x : ℕ). x % 2) (shl-shr (2 ^ suc d) k)
-    ∙ ap (λ (x : ℕ). x % 2) (pow-suc 2 d)
-    ∙ mul-mod-left (2 ^ d) 2
-
-bit-pow-high : (k r : ℕ) → r < k → 2 ^ r / 2 ^ k % 2 ≡ 0
-bit-pow-high k r h = ap (λ (x : ℕ). x % 2) (div-eq-of-lt (pow-lt h))
-
-bit-pow-other : (k r : ℕ) → k ≢ r → 2 ^ r / 2 ^ k % 2 ≡ 0
-bit-pow-other k r ne = go (decLt k r)
-  where
-    go : Dec (k < r) → 2 ^ r / 2 ^ k % 2 ≡ 0
-    go (yes h) = bit-pow-low k r h
-    go (no f) = bit-pow-high k r (omega arith)
-
-or-one : (d : ℕ) → d < 2 → bitOr d 1 ≡ 1
-or-one zero h = refl
-or-one (suc zero) h = refl
-or-one (suc (suc d)) h = absurd (omega arith)
-
--- the byte of y after marking y, at bit k
-byte-same : (b k : ℕ) → bitOr b (2 ^ k) / 2 ^ k % 2 ≡ 1
-byte-same b k = bit-or b (2 ^ k) k ∙ ap (bitOr (b / 2 ^ k % 2)) (bit-pow-same k) ∙ or-one (b / 2 ^ k % 2) (mod-lt _ (zero-lt-suc 1))
-
-byte-other : (b k r : ℕ) → k ≢ r → bitOr b (2 ^ r) / 2 ^ k % 2 ≡ b / 2 ^ k % 2
-byte-other b k r ne = bit-or b (2 ^ r) k ∙ ap (bitOr (b / 2 ^ k % 2)) (bit-pow-other k r ne) ∙ or-zero-r _
+use Rattle.finite.specs.Sets.{has}
+use Rattle.finite.proofs.Elements.{has-none, has-with, has-with-other}
+use Rattle.finite.proofs.Powers.{eights}
+use Rattle.design.specs.declared.Layout.{Layout}
+use Rattle.design.specs.inside.Described.{Describes}
+use Rattle.design.specs.Reading.{numberOf, meaning}
+use Rattle.design.specs.inside.StageLists.{listsOf}
+use Rattle.design.specs.Design.{stageOf}
+use Rattle.threshold.specs.Stages.{output}
+use Rattle.checker.specs.Verdict.{zeroed}
+use Rattle.checker.specs.inside.Marks.{marked, mark, Clear, markBytes}
+use Rattle.checker.proofs.StageFacts.{enough-bits, stage-stands}
 
 -- marking y marks y and nothing else
 mark-same : (l : List ℕ) (y : ℕ) → y / 8 < length l → marked (mark l y) y ≡ true
 unfolding marked mark
-mark-same l y h = ap (λ (b : ℕ). eqb (b / 2 ^ (y % 8) % 2) 1) (getD-set-same l (y / 8) _ 0 h) ∙ ap (λ (d : ℕ). eqb d 1) (byte-same (getD l (y / 8) 0) (y % 8))
+mark-same l y h = ap (λ (b : ℕ). has b (y % 8)) (getD-set-same l (y / 8) _ 0 h) ∙ has-with (getD l (y / 8) 0) (y % 8)
 
 mark-other : (l : List ℕ) (y z : ℕ) → y / 8 < length l → y ≢ z → marked (mark l y) z ≡ marked l z
 unfolding marked mark
@@ -71,12 +45,12 @@ mark-other l y z h f = go (ℕ-discrete (z / 8) (y / 8))
     v : ℕ
     v = bitOr (getD l (y / 8) 0) (2 ^ (y % 8))
 
-    go : Dec (z / 8 ≡ y / 8) → eqb (getD (set l (y / 8) v) (z / 8) 0 / 2 ^ (z % 8) % 2) 1 ≡ eqb (getD l (z / 8) 0 / 2 ^ (z % 8) % 2) 1
+    go : Dec (z / 8 ≡ y / 8) → has (getD (set l (y / 8) v) (z / 8) 0) (z % 8) ≡ has (getD l (z / 8) 0) (z % 8)
     go (yes e) =
         rw e
-        (ap (λ (b : ℕ). eqb (b / 2 ^ (z % 8) % 2) 1) (getD-set-same l (y / 8) v 0 h)
-        ∙ ap (λ (d : ℕ). eqb d 1) (byte-other (getD l (y / 8) 0) (z % 8) (y % 8) (λ q. f (omega arith))))
-    go (no g) = ap (λ (b : ℕ). eqb (b / 2 ^ (z % 8) % 2) 1) (getD-set-other l (y / 8) (z / 8) v 0 g)
+        (ap (λ (b : ℕ). has b (z % 8)) (getD-set-same l (y / 8) v 0 h)
+        ∙ has-with-other (getD l (y / 8) 0) (y % 8) (z % 8) (λ q. f (omega arith)))
+    go (no g) = ap (λ (b : ℕ). has b (z % 8)) (getD-set-other l (y / 8) (z / 8) v 0 g)
 
 pub mark-marks : (l : List ℕ) (y z : ℕ) → y / 8 < length l → marked (mark l y) z ≡ (marked l z || eqb y z)
 mark-marks l y z h = go (ℕ-discrete y z)
@@ -105,7 +79,7 @@ clear-none n l rest whole q y h =
     let k = n / 8 in
     let e : y / 8 < k = omega arith in
     rw (q, List·getD-append (replicate k 0) rest 0 (y / 8) (rw length-replicate e), getD-replicate {A = ℕ} k (y / 8) 0 0 e)
-    (ap (λ (x : ℕ). eqb (x % 2) 1) (zero-div (2 ^ (y % 8))))
+    (has-none (y % 8))
 
 -- cleared, marked within the first k bytes, and cleared again
 cleared-same : (k : ℕ) (l₀ l₁ l₂ l₃ : List ℕ) → l₁ ≡ zeroed k l₀ → drop k l₂ ≡ drop k l₁ → l₃ ≡ zeroed k l₂ → l₃ ≡ zeroed k l₀
@@ -117,25 +91,19 @@ cleared-again n k e l₀ l₁ l₂ l₃ a b c = cleared-same k l₀ l₁ l₂ l�
 -- ---- what a run has found
 
 -- i outputs are marked, and none twice
-pub record Run (n : ℕ) (g : ℕ → ℕ) (l₀ l : List ℕ) (i : ℕ) : Type 0 where
+pub record MarkedTo (n : ℕ) (g : ℕ → ℕ) (l₀ l : List ℕ) (i : ℕ) : Type 0 where
   pub most : i ≤ n
   pub long : length l ≡ length l₀
   pub rest : drop (n / 8) l ≡ drop (n / 8) l₀
   pub once : repeats i g ≡ false
   pub met : (y : ℕ) → y < n → marked l y ≡ any i (λ j. eqb (g j) y)
 
-pub run-start : (n : ℕ) (g : ℕ → ℕ) (l : List ℕ) → Clear n l → Run n g l l 0
+pub marked-start : (n : ℕ) (g : ℕ → ℕ) (l : List ℕ) → Clear n l → MarkedTo n g l l 0
 unfolding repeats any
-run-start n g l k = record { most = omega arith; long = refl; rest = refl; once = refl; met = k }
-
--- 2^e is a multiple of 8
-pub eights : (e : ℕ) → 3 ≤ e → 2 ^ e % 8 ≡ 0
-eights e h =
-    let q : e ≡ e - 3 + 3 = omega arith in
-    ap (λ (x : ℕ). 2 ^ x % 8) q ∙ ap (λ (x : ℕ). x % 8) (pow-add 2 (e - 3) 3) ∙ mul-mod-left (2 ^ (e - 3)) 8
+marked-start n g l k = record { most = omega arith; long = refl; rest = refl; once = refl; met = k }
 
 -- `mark_all`, at each way out and for a turn: k tries are made, y is the output of try i, q whether it was marked before, l₁ the marks with it
-module _ (e : ℕ) (g : ℕ → ℕ) (l₀ l : List ℕ) (i : ℕ) (r : Run (2 ^ e) g l₀ l i) (k : ℕ) where
+module _ (e : ℕ) (g : ℕ → ℕ) (l₀ l : List ℕ) (i : ℕ) (r : MarkedTo (2 ^ e) g l₀ l i) (k : ℕ) where
   module _ (more : i < k) (ek : k ≡ 2 ^ e) (y : ℕ) (below : y < 2 ^ e) (here : y ≡ g i) (low : 3 ≤ e) (room : 2 ^ e / 8 ≤ length l₀) where
     within : y / 8 < 2 ^ e / 8
     within = let w = eights e low in omega arith
@@ -145,29 +113,40 @@ module _ (e : ℕ) (g : ℕ → ℕ) (l₀ l : List ℕ) (i : ℕ) (r : Run (2 ^
     seen = r .met y below ∙ ap (λ (z : ℕ). any i (λ j. eqb (g j) z)) here
 
     -- the mark is inside the workspace
-    pub run-inside : y / 8 < length l
-    run-inside = let w = within in let h = r .long in omega arith
+    pub marked-inside : y / 8 < length l
+    marked-inside = let w = within in let h = r .long in omega arith
 
     -- a mark that is met is an earlier output
-    pub run-found : (q : Bool) → q ≡ true → q ≡ marked l y → true ≡ repeats (2 ^ e) g
+    pub marked-found : (q : Bool) → q ≡ true → q ≡ marked l y → true ≡ repeats (2 ^ e) g
     unfolding repeats
-    run-found q h m = sym (any-at (2 ^ e) _ i (omega arith) (sym seen ∙ sym m ∙ h))
+    marked-found q h m = sym (any-at (2 ^ e) _ i (omega arith) (sym seen ∙ sym m ∙ h))
 
-    pub run-rest : (l₁ : List ℕ) → l₁ ≡ mark l y → drop (2 ^ e / 8) l₁ ≡ drop (2 ^ e / 8) l₀
-    run-rest l₁ m = ap (drop (2 ^ e / 8)) m ∙ mark-drop l (2 ^ e / 8) y within ∙ r .rest
+    pub marked-rest : (l₁ : List ℕ) → l₁ ≡ mark l y → drop (2 ^ e / 8) l₁ ≡ drop (2 ^ e / 8) l₀
+    marked-rest l₁ m = ap (drop (2 ^ e / 8)) m ∙ mark-drop l (2 ^ e / 8) y within ∙ r .rest
 
-    pub run-step : (q : Bool) → q ≡ false → q ≡ marked l y → (l₁ : List ℕ) → l₁ ≡ mark l y → Run (2 ^ e) g l₀ l₁ (i + 1)
+    pub marked-step : (q : Bool) → q ≡ false → q ≡ marked l y → (l₁ : List ℕ) → l₁ ≡ mark l y → MarkedTo (2 ^ e) g l₀ l₁ (i + 1)
     unfolding repeats
-    run-step q h m l₁ is = record {
+    marked-step q h m l₁ is = record {
       most = omega arith;
       long = ap length is ∙ mark-length l y ∙ r .long;
-      rest = run-rest l₁ is;
+      rest = marked-rest l₁ is;
       once = rw (any-step, r .once, ← seen) (sym m ∙ h);
       met = λ z b.
-          ap (λ (w : List ℕ). marked w z) is ∙ mark-marks l y z run-inside ∙ ap (λ (a : Bool). a || eqb y z) (r .met z b)
+          ap (λ (w : List ℕ). marked w z) is ∙ mark-marks l y z marked-inside ∙ ap (λ (a : Bool). a || eqb y z) (r .met z b)
           ∙ ap (λ (w : ℕ). any i (λ j. eqb (g j) z) || eqb w z) here ∙ sym (any-step i (λ j. eqb (g j) z));
     }
 
   module _ (less : k ≤ i) (ek : k ≡ 2 ^ e) where
-    pub run-none : false ≡ repeats (2 ^ e) g
-    run-none = let h = r .most in let z : i ≡ 2 ^ e = omega arith in sym (rw z at (r .once))
+    pub marked-none : false ≡ repeats (2 ^ e) g
+    marked-none = let h = r .most in let z : i ≡ 2 ^ e = omega arith in sym (rw z at (r .once))
+
+-- ---- `meets_twice`: zeroed bytes mark nothing, and the lists are the stage's
+
+module _ (f : List ℕ) (l : Layout) (d : Describes f l) where
+  pub none-marked : (n : ℕ) (ws ws₁ : List ℕ) → n ≡ markBytes l → ws₁ ≡ zeroed n ws → Clear (2 ^ (l .head .m * l .head .s)) ws₁
+  none-marked n ws ws₁ e q = clear-none (2 ^ (l .head .m * l .head .s)) ws₁ (drop n ws) (eights _ (enough-bits f l d)) (q ∙ ap (λ (x : ℕ). replicate x 0 ++ drop n ws) e)
+
+module _ (f : List ℕ) (l : Layout) (t : ℕ) (h : t < l .head .k) (d : Describes f l) (first : ℕ) (e : first ≡ numberOf (l .head) t 1) (bytes : Fit (fInt w8) 0 f) where
+  pub stage-meets : (r : Bool) → r ≡ repeats (2 ^ (l .head .m * l .head .s)) (output (listsOf f (l .starts) first (l .head .m * l .head .s)))
+      → r ≡ repeats (2 ^ (l .head .m * l .head .s)) (output (stageOf (meaning f) t .lists))
+  stage-meets r q = q ∙ ap (λ (u : List (List ℕ)). repeats (2 ^ (l .head .m * l .head .s)) (output u)) (stage-stands f l t h d first e bytes .all)

@@ -16,31 +16,29 @@ use Rattle.design.specs.Reading.{meaning}
 use Rattle.design.specs.inside.Described.{Describes}
 use Rattle.design.specs.declared.Layout.{Layout}
 use Rattle.design.proofs.Answered.{described}
-use Rattle.checker.specs.Verdict.{firstRepeating}
+use Rattle.checker.specs.Verdict.{tableRepeats, firstRepeating}
 use Rattle.checker.specs.Accepted.{TablePermutes}
-
--- the table of stage t repeats an entry
-abbrev pub tableRepeats : Design → ℕ → Bool
-tableRepeats d t = repeats (2 ^ d .m) (entry (stageOf d t .table))
+use Rattle.checker.proofs.StageFacts.{table-size}
 
 module _ (d : Design) where
-  pub first-repeats : firstRepeating d < d .k → (tableRepeats d (firstRepeating d) ≡ true) × (any (firstRepeating d) (tableRepeats d) ≡ false)
+  pub first-repeats : any (d .k) (tableRepeats d) ≡ true → (firstRepeating d < d .k) × (tableRepeats d (firstRepeating d) ≡ true) × (any (firstRepeating d) (tableRepeats d) ≡ false)
   unfolding firstRepeating
-  first-repeats l = let r = first-is (d .k) (tableRepeats d) (first-some (d .k) (tableRepeats d) l) in (r .1, r .2)
+  first-repeats e = first-is (d .k) (tableRepeats d) e
 
-  pub none-repeats : d .k ≤ firstRepeating d → any (d .k) (tableRepeats d) ≡ false
+  pub some-repeat : firstRepeating d < d .k → any (d .k) (tableRepeats d) ≡ true
   unfolding firstRepeating
-  none-repeats l = first-past (d .k) (tableRepeats d) l
+  some-repeat l = first-some (d .k) (tableRepeats d) l
 
-  pub none-permutes : (n : ℕ) → any n (tableRepeats d) ≡ false → (t : ℕ) → t < n → TablePermutes d t
-  none-permutes n e t l = repeats→injective (2 ^ d .m) (entry (stageOf d t .table)) (any-none n (tableRepeats d) e t l)
+  pub none-repeat : d .k ≤ firstRepeating d → any (d .k) (tableRepeats d) ≡ false
+  unfolding firstRepeating
+  none-repeat l = first-past (d .k) (tableRepeats d) l
+
+  pub tables-permute : (n : ℕ) → any n (tableRepeats d) ≡ false → (t : ℕ) → t < n → TablePermutes d t
+  tables-permute n e t l = repeats→injective (2 ^ d .m) (entry (stageOf d t .table)) (any-none n (tableRepeats d) e t l)
 
 module _ (f : List ℕ) (l : Layout) (d : Describes f l) where
   pub box-repeats : (b : List ℕ) → b ≡ meaning f .box → repeats (length b) (entry b) ≡ repeats (2 ^ meaning f .m) (entry (meaning f .box))
   box-repeats b e = ap (λ (x : List ℕ). repeats (length x) (entry x)) e ∙ ap (λ (n : ℕ). repeats n (entry (meaning f .box))) (described d .formed .box .size)
-
-  pub table-size : (t : ℕ) → t < l .head .k → length (stageOf (meaning f) t .table) ≡ 2 ^ meaning f .m
-  table-size t h = described d .formed .stage t (let e = described d .k in omega arith) .table .size
 
 -- ---- `first_repeating`: no table of the stages before t repeats an entry; b is the table of stage t, r whether it does
 

@@ -1,85 +1,53 @@
--- The verdict on the stages, one stage at a time: what stage t answers, and what the stages from t on do.
+-- The verdict on the stages, one stage at a time: what the stages from t on answer, by what stage t answers alone.
 -- Assumes nothing.
-use mathlib.Core.Path.{_≡_, refl, _∙_}
-use mathlib.Core.Bool.{Bool, true, false}
+use mathlib.Core.Path.{_≡_, refl, ap, _∙_}
+use mathlib.Core.Logic.{⊎-elim}
+use mathlib.Core.List.{[]}
 use Prim.Native.Nat.{ℕ, _+_, _<_}
 use native.Mathlib.Numerals.{add-one}
 use native.Mathlib.Omega.{arith}
 use lib.ListN.{length, drop}
 use lib.Seq.{drop-cons, drop-length}
-use Rattle.finite.specs.Tests.{pick, any, first}
-use Rattle.finite.proofs.Testing.{pick-true, pick-false}
+use Rattle.finite.specs.Faults.{firstFault}
+use Rattle.finite.proofs.Faults.{fault-past, fault-none, fault-append, fault-passed, some-or-none}
 use Rattle.design.specs.Design.{Design, noStage, stageOf}
-use Rattle.threshold.specs.Stages.{correct, readsOwn, uniform}
-use Rattle.checker.specs.Verdict.{answer, stageVerdict, judgeStages}
+use Rattle.checker.specs.Verdict.{answer, stageFaults, stagesFaults}
+use Rattle.checker.specs.inside.Parts.{stageJudged, stagesJudged}
 use Rattle.checker.specs.declared.Verdict.{Verdict}
 
--- component j of stage t depends on share j
-abbrev pub readsOwnAt : Design → ℕ → ℕ → Bool
-readsOwnAt d t = readsOwn (d .m) (d .s) (stageOf d t)
-
 -- what stage t answers, where those after it answer `onward`
-abbrev pub stageAnswer : Design → ℕ → Verdict → Verdict
-stageAnswer d t onward = stageVerdict d (t + 1) (stageOf d t) onward
+abbrev pub stageThen : Design → ℕ → Verdict → Verdict
+stageThen d t onward = firstFault (stageFaults answer d (t + 1) (stageOf d t)) onward
 
 -- what the stages from t on answer
 abbrev pub stagesFrom : Design → ℕ → Verdict
-stagesFrom d t = judgeStages d (t + 1) (drop t (d .stages))
+stagesFrom d t = firstFault (stagesFaults answer d (t + 1) (drop t (d .stages))) (answer 0 (d .k) 0)
 
-pub stages-next : (d : Design) (t : ℕ) → t < length (d .stages) → stagesFrom d t ≡ stageAnswer d t (stagesFrom d (t + 1))
-unfolding judgeStages
-stages-next d t h = rw (drop-cons (d .stages) t noStage h) (simp add-one refl)
+module _ (d : Design) where
+  pub stages-all : stagesJudged d ≡ stagesFrom d 0
+  unfolding stagesJudged
+  stages-all = refl
 
-pub stages-end : (d : Design) (t : ℕ) → t ≡ length (d .stages) → stagesFrom d t ≡ answer 0 (d .k) 0
-unfolding judgeStages
-stages-end d t e = rw (e, drop-length) refl
+  pub stages-end : (t : ℕ) → t ≡ length (d .stages) → stagesFrom d t ≡ answer 0 (d .k) 0
+  unfolding stagesFaults
+  stages-end t e = rw (e, drop-length) (fault-none (answer 0 (d .k) 0))
 
-pub stages-all : (d : Design) → judgeStages d 1 (d .stages) ≡ stagesFrom d 0
-stages-all d = refl
+  module _ (t : ℕ) where
+    pub stages-next : t < length (d .stages) → stagesFrom d t ≡ stageThen d t (stagesFrom d (t + 1))
+    unfolding stagesFaults
+    stages-next h = rw (drop-cons (d .stages) t noStage h) (fault-append (stageFaults answer d (t + 1) (stageOf d t)) _ _ ∙ simp add-one refl)
 
--- ---- a stage without fault answers what those after it do; a stage with one, its own
+    -- a stage with a fault answers its own, whatever those after it do
+    pub stage-fault : (onward : Verdict) → (stageJudged d t .reason ≡ 0 → ⊥) → stageThen d t onward ≡ stageJudged d t
+    unfolding stageJudged
+    stage-fault onward n =
+        ⊎-elim (λ none. absurd (n (ap (λ (v : Verdict). v .reason) (none (answer 0 0 0))))) (λ same. same onward (answer 0 0 0)) (some-or-none (stageFaults answer d (t + 1) (stageOf d t)))
 
-module _ (d : Design) (t : ℕ) (onward : Verdict) where
-  pub stage-wrong : correct (d .m) (d .s) (stageOf d t) ≡ false → stageAnswer d t onward ≡ answer 12 (t + 1) 0
-  unfolding stageVerdict
-  stage-wrong e = pick-false _ _ _ e
-
-  pub stage-reads : correct (d .m) (d .s) (stageOf d t) ≡ true → any (d .s) (readsOwnAt d t) ≡ true
-      → stageAnswer d t onward ≡ answer 13 (t + 1) (first (d .s) (readsOwnAt d t) + 1)
-  unfolding stageVerdict
-  stage-reads e r = pick-true _ _ _ e ∙ pick-true _ _ _ r
-
-  pub stage-judged : correct (d .m) (d .s) (stageOf d t) ≡ true → any (d .s) (readsOwnAt d t) ≡ false
-      → stageAnswer d t onward ≡ pick (uniform (d .m) (d .s) (stageOf d t)) onward (answer 14 (t + 1) 0)
-  unfolding stageVerdict
-  stage-judged e r = pick-true _ _ _ e ∙ pick-false _ _ _ r
-
-  -- by what it answers where those after it answer 0
-  pub stage-fault : (stageAnswer d t (answer 0 0 0) .reason ≡ 0 → ⊥) → stageAnswer d t onward ≡ stageAnswer d t (answer 0 0 0)
-  unfolding stageVerdict
-  stage-fault = go (correct (d .m) (d .s) (stageOf d t)) (any (d .s) (readsOwnAt d t)) (uniform (d .m) (d .s) (stageOf d t))
-    where
-      a13 : Verdict
-      a13 = answer 13 (t + 1) (first (d .s) (readsOwnAt d t) + 1)
-
-      go : (c r u : Bool) → (pick c (pick r a13 (pick u (answer 0 0 0) (answer 14 (t + 1) 0))) (answer 12 (t + 1) 0) .reason ≡ 0 → ⊥)
-          → pick c (pick r a13 (pick u onward (answer 14 (t + 1) 0))) (answer 12 (t + 1) 0)
-          ≡ pick c (pick r a13 (pick u (answer 0 0 0) (answer 14 (t + 1) 0))) (answer 12 (t + 1) 0)
-      go true true u n = refl
-      go true false true n = absurd (n refl)
-      go true false false n = refl
-      go false r u n = refl
-
-  pub stage-fine : stageAnswer d t (answer 0 0 0) .reason ≡ 0 → stageAnswer d t onward ≡ onward
-  unfolding stageVerdict
-  stage-fine = go (correct (d .m) (d .s) (stageOf d t)) (any (d .s) (readsOwnAt d t)) (uniform (d .m) (d .s) (stageOf d t))
-    where
-      b13 : Verdict
-      b13 = answer 13 (t + 1) (first (d .s) (readsOwnAt d t) + 1)
-
-      go : (c r u : Bool) → pick c (pick r b13 (pick u (answer 0 0 0) (answer 14 (t + 1) 0))) (answer 12 (t + 1) 0) .reason ≡ 0
-          → pick c (pick r b13 (pick u onward (answer 14 (t + 1) 0))) (answer 12 (t + 1) 0) ≡ onward
-      go true true u e = absurd (omega arith)
-      go true false true e = refl
-      go true false false e = absurd (omega arith)
-      go false r u e = absurd (omega arith)
+    -- a stage without fault leaves the answer to those after it
+    pub stage-fine : (onward : Verdict) → stageJudged d t .reason ≡ 0 → stageThen d t onward ≡ onward
+    unfolding stageJudged
+    stage-fine onward z =
+        let right = fault-passed (λ v. v .reason ≡ 0) _ (answer 12 (t + 1) 0) _ _ (λ q. omega arith) z in
+        let alone = fault-passed (λ v. v .reason ≡ 0) _ (answer 13 (t + 1) _) _ _ (λ q. omega arith) (right .1) in
+        let even = fault-passed (λ v. v .reason ≡ 0) _ (answer 14 (t + 1) 0) [] _ (λ q. omega arith) (alone .1) in
+        fault-past _ _ _ _ (right .0) ∙ fault-past _ _ _ _ (alone .0) ∙ fault-past _ _ _ _ (even .0) ∙ fault-none onward

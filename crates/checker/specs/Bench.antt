@@ -1,4 +1,4 @@
--- The bench designs of the verdict and of running: tables of files, what they are given, and answers.
+-- "Bench designs" of the verdict and of running: tables of files, what they are given, and answers.
 use Prim.Native.Nat.{ℕ}
 use mathlib.Core.List.{List, [], _∷_}
 use Rattle.design.specs.Encode.{encode}
@@ -26,15 +26,15 @@ boxD a b = variantD (a ∷ b ∷ []) (2 ∷ []) (4 ∷ []) (1 ∷ [])
 abbrev pub listsD : List ℕ → List ℕ → List ℕ → List ℕ
 listsD a b c = variantD (0 ∷ 1 ∷ []) a b c
 
-pub record Row : Type 0 where
+pub record VerdictRow : Type 0 where
   pub file : List ℕ
   pub workspace : ℕ
   pub answer : Verdict
 
-abbrev row : List ℕ → ℕ → Verdict → Row
+abbrev row : List ℕ → ℕ → Verdict → VerdictRow
 row f n v = record { file = f; workspace = n; answer = v }
 
-abbrev pub rows : List Row
+abbrev pub rows : List VerdictRow
 rows =
     -- D is accepted with one byte of workspace, and with the program's
     row fileD 1 (answer 0 1 0) ∷
@@ -58,12 +58,12 @@ rows =
 
 -- ---- running
 
-pub record Run : Type 0 where
+pub record RunRow : Type 0 where
   pub file : List ℕ
   pub shares : List ℕ
   pub answer : Ran
 
-abbrev pub runs : List Run
+abbrev pub runs : List RunRow
 runs =
     -- D run on shares 1 0 0
     record { file = fileD; shares = 1 ∷ 0 ∷ 0 ∷ 0 ∷ 0 ∷ []; answer = record { reason = 0; shares = 0 ∷ 0 ∷ 1 ∷ 0 ∷ 0 ∷ [] } } ∷

@@ -12,14 +12,13 @@ use stages::offending;
 use tables::chain_is_box;
 use tables::first_repeating;
 ghost use mathlib.Core.Path.{_≡_};
-ghost use Prim.Native.Nat.{_+_, _≤_, _<_};
+ghost use Prim.Native.Nat.{_≤_, _<_};
 ghost use lib.ListN.{length};
-ghost use Rattle.design.specs.Design.{stageOf};
 ghost use Rattle.design.specs.Reading.{meaning};
 ghost use Rattle.design.specs.inside.Described.{Describes};
-ghost use Rattle.checker.specs.Verdict.{answer, firstRepeating, stageVerdict, judgeStages, judged, verdict, workspaceAfter};
-ghost use Rattle.checker.specs.Parts.{judgedChain, workspaceOf};
-ghost use Rattle.checker.specs.Marks.{Cleared};
+ghost use Rattle.checker.specs.Verdict.{answer, firstRepeating, judged, verdict, workspaceLeft, workspaceAfter};
+ghost use Rattle.checker.specs.inside.Parts.{stageJudged, stagesJudged, chainJudged};
+ghost use Rattle.checker.specs.inside.Marks.{Cleared};
 
 // Reason, place and component, as the paper numbers them.
 #[repr(C)]
@@ -42,7 +41,7 @@ fn give(reason: usize, place: usize, component: usize) -> Verdict
 // What stage `t`, counted from 0, answers: 12, 13 or 14, and 0 where it has no fault. The marks are zero before and after.
 fn judge_stage(file: &[u8], layout: Layout, t: usize, workspace: &mut [u8]) -> Verdict
     requires { ⌜ Describes (now file) layout × (t < layout .head .k) × Cleared layout (now workspace) × (layout .head .k ≤ firstRepeating (meaning (now file))) ⌝ }
-    ensures { λ r. ⌜ r ≡ stageVerdict (meaning (now (file .entry))) (t + 1) (stageOf (meaning (now (file .entry))) t) (answer 0 0 0) ⌝ }
+    ensures { λ r. ⌜ r ≡ stageJudged (meaning (now (file .entry))) t ⌝ }
     ensures { λ _. ⌜ now (workspace .exit) ≡ now (workspace .entry) ⌝ }
 {
     if !correct_stage(file, layout, t) {
@@ -61,7 +60,7 @@ fn judge_stage(file: &[u8], layout: Layout, t: usize, workspace: &mut [u8]) -> V
 // The stages, each judged.
 fn judge_stages(file: &[u8], layout: Layout, workspace: &mut [u8]) -> Verdict
     requires { ⌜ Describes (now file) layout × Cleared layout (now workspace) × (layout .head .k ≤ firstRepeating (meaning (now file))) ⌝ }
-    ensures { λ r. ⌜ r ≡ judgeStages (meaning (now (file .entry))) 1 (meaning (now (file .entry)) .stages) ⌝ }
+    ensures { λ r. ⌜ r ≡ stagesJudged (meaning (now (file .entry))) ⌝ }
     ensures { λ _. ⌜ now (workspace .exit) ≡ now (workspace .entry) ⌝ }
 {
     let k = layout.head.k;
@@ -79,7 +78,7 @@ fn judge_stages(file: &[u8], layout: Layout, workspace: &mut [u8]) -> Verdict
 // The chain of tables, the tables and the stages: 10 and above, or 0. The marks are zero before and after.
 fn judge_chain(file: &[u8], layout: Layout, workspace: &mut [u8]) -> Verdict
     requires { ⌜ Describes (now file) layout × Cleared layout (now workspace) ⌝ }
-    ensures { λ r. ⌜ r ≡ judgedChain (meaning (now (file .entry))) ⌝ }
+    ensures { λ r. ⌜ r ≡ chainJudged (meaning (now (file .entry))) ⌝ }
     ensures { λ _. ⌜ now (workspace .exit) ≡ now (workspace .entry) ⌝ }
 {
     if !chain_is_box(file, layout) {
@@ -96,7 +95,7 @@ fn judge_chain(file: &[u8], layout: Layout, workspace: &mut [u8]) -> Verdict
 fn judge_design(file: &[u8], layout: Layout, workspace: &mut [u8]) -> Verdict
     requires { ⌜ Describes (now file) layout ⌝ }
     ensures { λ r. ⌜ r ≡ judged (meaning (now (file .entry))) (length (now (workspace .entry))) ⌝ }
-    ensures { λ _. ⌜ now (workspace .exit) ≡ workspaceOf (meaning (now (file .entry))) (now (workspace .entry)) ⌝ }
+    ensures { λ _. ⌜ now (workspace .exit) ≡ workspaceLeft (meaning (now (file .entry))) (judged (meaning (now (file .entry))) (length (now (workspace .entry))) .reason) (now (workspace .entry)) ⌝ }
 {
     if anf::repeats(design::box_table(file, layout)) {
         return give(8, 0, 0);

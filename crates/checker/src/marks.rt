@@ -1,14 +1,14 @@
 // Marks in a lent workspace: one bit for each sharing, eight to a byte, lowest first.
 ghost use mathlib.Core.Path.{_≡_};
-ghost use mathlib.Core.List.{_++_};
 ghost use Prim.Native.Nat.{_/_, _≤_, _<_};
-ghost use lib.ListN.{length, drop, replicate};
-ghost use Rattle.checker.specs.Marks.{marked, mark};
+ghost use lib.ListN.{length};
+ghost use Rattle.checker.specs.Verdict.{zeroed};
+ghost use Rattle.checker.specs.inside.Marks.{marked, mark};
 
 // Zeroes the first `n` bytes.
 pub fn clear(marks: &mut [u8], n: usize)
     requires { ⌜ n ≤ length (now marks) ⌝ }
-    ensures { λ _. ⌜ now (marks .exit) ≡ replicate n 0 ++ drop n (now (marks .entry)) ⌝ }
+    ensures { λ _. ⌜ now (marks .exit) ≡ zeroed n (now (marks .entry)) ⌝ }
 {
     let mut i: usize = 0;
     while i < n {

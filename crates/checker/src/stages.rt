@@ -8,6 +8,7 @@ ghost use lib.Dec.{eqb};
 ghost use lib.ListN.{length, getD, drop};
 ghost use Rattle.finite.specs.Tests.{first};
 ghost use Rattle.finite.specs.Maps.{repeats};
+ghost use Rattle.anf.specs.Terms.{named};
 ghost use Rattle.design.specs.Limits.{greatestWidth, greatestShares, greatestShareBits};
 ghost use Rattle.design.specs.Design.{stageOf};
 ghost use Rattle.design.specs.Reading.{meaning};
@@ -16,8 +17,9 @@ ghost use Rattle.design.specs.inside.StageLists.{listsOf};
 ghost use Rattle.threshold.specs.Sharing.{sum};
 ghost use Rattle.threshold.specs.inside.Variables.{variables};
 ghost use Rattle.threshold.specs.Stages.{output, correct, readsOwn};
-ghost use Rattle.checker.specs.Parts.{Standing, agreeing};
-ghost use Rattle.checker.specs.Marks.{Clear, zeroed, sharingsOf, marksOf, named};
+ghost use Rattle.checker.specs.Verdict.{zeroed};
+ghost use Rattle.checker.specs.inside.Parts.{Standing, agreeing};
+ghost use Rattle.checker.specs.inside.Marks.{Clear, markBytes};
 
 // Whether the output sharing `y` sums to what the table makes of the sum of the sharing `x`.
 fn agrees(table: &[u8], m: usize, s: usize, x: u32, y: u32) -> bool
@@ -39,7 +41,7 @@ fn sharings(bits: usize) -> u32
 // How many bytes hold a mark for each sharing.
 pub fn mark_bytes(layout: Layout) -> usize
     requires { ⌜ layout .head .m * layout .head .s ≤ greatestShareBits ⌝ }
-    ensures { λ r. ⌜ r ≡ marksOf layout ⌝ }
+    ensures { λ r. ⌜ r ≡ markBytes layout ⌝ }
 {
     finite::power(layout.head.m * layout.head.s) / 8
 }
@@ -120,7 +122,7 @@ pub fn offending(file: &[u8], layout: Layout, t: usize) -> usize
 
 // Marks the output of each sharing, up to the first that is marked already, and answers whether there is one.
 fn mark_all(file: &[u8], starts: &[usize], first: usize, count: usize, workspace: &mut [u8]) -> bool
-    requires { ⌜ Standing (now file) (now starts) first count × (3 ≤ count) × (2 ^ count / 8 ≤ length (now workspace)) × Clear (2 ^ count) (now workspace) ⌝ }
+    requires { ⌜ (3 ≤ count) × Standing (now file) (now starts) first count × (2 ^ count / 8 ≤ length (now workspace)) × Clear (2 ^ count) (now workspace) ⌝ }
     ensures { λ r. ⌜ r ≡ repeats (2 ^ count) (output (listsOf (now (file .entry)) (now (starts .entry)) first count)) ⌝ }
     ensures { λ _. ⌜ drop (2 ^ count / 8) (now (workspace .exit)) ≡ drop (2 ^ count / 8) (now (workspace .entry)) ⌝ }
 {
@@ -138,9 +140,9 @@ fn mark_all(file: &[u8], starts: &[usize], first: usize, count: usize, workspace
 
 // Whether two sharings give one output of stage `t`. The workspace that the marks take is zero afterwards.
 pub fn meets_twice(file: &[u8], layout: Layout, t: usize, workspace: &mut [u8]) -> bool
-    requires { ⌜ Describes (now file) layout × (t < layout .head .k) × (marksOf layout ≤ length (now workspace)) ⌝ }
-    ensures { λ r. ⌜ r ≡ repeats (sharingsOf layout) (output (stageOf (meaning (now (file .entry))) t .lists)) ⌝ }
-    ensures { λ _. ⌜ now (workspace .exit) ≡ zeroed (marksOf layout) (now (workspace .entry)) ⌝ }
+    requires { ⌜ Describes (now file) layout × (t < layout .head .k) × (markBytes layout ≤ length (now workspace)) ⌝ }
+    ensures { λ r. ⌜ r ≡ repeats (2 ^ (layout .head .m * layout .head .s)) (output (stageOf (meaning (now (file .entry))) t .lists)) ⌝ }
+    ensures { λ _. ⌜ now (workspace .exit) ≡ zeroed (markBytes layout) (now (workspace .entry)) ⌝ }
 {
     let starts = layout.starts;
     let first = design::number(layout.head, t, 1);

@@ -7,7 +7,7 @@ ghost use lib.ListN.{length, getD};
 ghost use Rattle.design.specs.Reading.{meaning};
 ghost use Rattle.design.specs.inside.Described.{Describes};
 ghost use Rattle.checker.specs.Verdict.{chainIsBox, firstRepeating};
-ghost use Rattle.checker.specs.Parts.{Composes};
+ghost use Rattle.checker.specs.inside.Parts.{Composes};
 
 // The numbers 0 to 63, each at its own place.
 fn identity() -> [u8; 64]

@@ -17,7 +17,7 @@ use Rattle.producer.specs.Direct.{directStage, directSharing, Box}
 use Rattle.producer.specs.Producing.{produced}
 use Rattle.producer.proofs.Theorems.{ProducedSound, produced-sound}
 
-module _ (m s n : ℕ) (t : List ℕ) (b : Box m s t) (low : degree m (entry t) < s) (room : workspaceFor (directSharing m s t) ≤ n) where
+module _ (m s n : ℕ) (t : List ℕ) (b : Box m s t) (low : degree m (entry t) < s) (room : workspaceFor m s ≤ n) where
   sound : ProducedSound m s t
   sound = produced-sound m s t b low
 
@@ -37,14 +37,14 @@ module _ (m s n : ℕ) (t : List ℕ) (b : Box m s t) (low : degree m (entry t) 
   unfolding directSharing directStage
   outcome v (refusal r p e why) = let q : means (directSharing m s t) ≡ refused r p = sym (sound .reads) ∙ e in let z : _≡_ {A = ℕ} 0 1 = cc in absurd (omega arith)
   outcome v (fault-8 e r h) = absurd (subst (λ (x : Design). ¬ Permutation (x .m) (x .box)) (same e r) h (λ x y lx ly q. b .injective x y lx ly q))
-  outcome v (fault-9 e r p h) = absurd (omega (arith, room, subst (λ (x : Design). n < workspaceFor x) (same e r) h))
+  outcome v (fault-9 e r p h) = absurd (omega (arith, room, subst (λ (x : Design). n < workspaceFor (x .m) (x .s)) (same e r) h))
   outcome v (fault-10 e r h) = absurd (subst (λ (x : Design). ¬ ChainIsBox x) (same e (r .reads)) h (λ x l. sound .chain x))
   outcome v (fault-11 e i r c l p h) = absurd (never TablePermutes e i (r .reads) l (λ x y lx ly q. b .injective x y lx ly q) h)
-  outcome v (fault-12 e i p l h) = absurd (never CorrectAt e i (p .ready .reads) l (sound .correctly) h)
+  outcome v (fault-12 e i p l h) = absurd (never CorrectAt e i (p .judgeable .reads) l (sound .correctly) h)
   outcome v (fault-13 e i j p l c k q h) =
-      absurd (never (λ x y. IgnoresOwn x y j) e i (p .ready .reads) l (sound .non-completely j (subst (λ (x : Design). j < x .s) (same e (p .ready .reads)) k)) h)
-  outcome v (fault-14 e i p l c o h) = inr (ap (λ (x : ℕ). answer 14 (x + 1) 0) (only e i (p .ready .reads) l))
-  outcome v (accepted e p) = inl (ap (λ (x : Design). answer 0 (x .k) 0) (same e (p .ready .reads)))
+      absurd (never (λ x y. IgnoresOwn x y j) e i (p .judgeable .reads) l (sound .non-completely j (subst (λ (x : Design). j < x .s) (same e (p .judgeable .reads)) k)) h)
+  outcome v (fault-14 e i p l c o h) = inr (ap (λ (x : ℕ). answer 14 (x + 1) 0) (only e i (p .judgeable .reads) l))
+  outcome v (accepted e p) = inl (ap (λ (x : Design). answer 0 (x .k) 0) (same e (p .judgeable .reads)))
 
   pub produced-verdict : (verdict (produced m s t) n ≡ answer 0 1 0) ⊎ (verdict (produced m s t) n ≡ answer 14 1 0)
   produced-verdict = outcome (verdict (produced m s t) n) (explained (produced m s t) n)

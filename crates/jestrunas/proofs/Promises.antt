@@ -149,7 +149,7 @@ pub produced-reads : (m s : ℕ) (t : List ℕ) → Box m s t → degree m (entr
 produced-reads m s t b low = let p = produced-sound m s t b low in (p .reads, p .correctly, p .non-completely)
 
 -- So with enough workspace its verdict is 0 or 14.
-pub produced-judged : (m s n : ℕ) (t : List ℕ) → Box m s t → degree m (entry t) < s → workspaceFor (directSharing m s t) ≤ n
+pub produced-judged : (m s n : ℕ) (t : List ℕ) → Box m s t → degree m (entry t) < s → workspaceFor m s ≤ n
     → (verdict (produced m s t) n ≡ answer 0 1 0) ⊎ (verdict (produced m s t) n ≡ answer 14 1 0)
 produced-judged = produced-verdict
 
@@ -190,8 +190,8 @@ pub bench : Bench
 bench = record {
   passages = anf-bench.bench;
   readings = design-bench.bench;
-  verdicts = checker-bench.bench .0;
-  runs = checker-bench.bench .1;
+  verdicts = checker-bench.bench-verdicts;
+  runs = checker-bench.bench-runs;
   productions = producer-bench.bench-answers;
   outputs = producer-bench.bench-outputs;
 }

@@ -1,20 +1,23 @@
 -- Component functions that are correct for a permutation carry sharings; they are uniform exactly when no output sharing is met twice, and exactly when
 -- they have the count in document 003. Non-complete: what component j gives is a function of its setting. Assumes nothing.
-use mathlib.Core.Path.{_≡_, sym, _∙_, subst}
+use mathlib.Core.Path.{_≡_, refl, sym, _∙_, subst}
 use mathlib.Core.Logic.{_↔_}
+use mathlib.Core.Bool.{Bool, true, false, not}
 use mathlib.Core.List.{List}
 use Prim.Native.Nat.{ℕ, _*_, _^_, _<_}
 use lib.ListN.{length}
 use lib.Pow.{pow-pos}
-use Rattle.finite.specs.Maps.{Injective}
+use Rattle.finite.specs.Maps.{Injective, repeats}
+use Rattle.finite.proofs.Testing.{not-true-false}
+use Rattle.finite.proofs.Maps.{repeats-clash, repeats→injective}
 use Rattle.anf.specs.Tables.{entry, Permutation}
 use Rattle.design.specs.Design.{Stage, StageFits, TableFits}
 use Rattle.threshold.specs.Sharing.{share, sum, setting, putShare}
-use Rattle.threshold.specs.Stages.{output, component, Correct, Ignores, Uniform, CountedUniform}
+use Rattle.threshold.specs.Stages.{output, component, Correct, Ignores, Uniform, CountedUniform, uniform}
 use Rattle.threshold.proofs.Sharing.{sum-lt, sum-shares}
 use Rattle.threshold.proofs.Output.{output-lt}
 use Rattle.threshold.proofs.Carried.{Carries, even→injective, injective→even, even→counted, counted→even}
-use Rattle.threshold.proofs.Tests.{even→uniform, uniform→even}
+use Rattle.threshold.proofs.Tests.{even→uniform, uniform→even, uniform↔}
 
 -- ---- any component functions: `out` gives the output sharing
 
@@ -65,6 +68,14 @@ module _ (w s : ℕ) (g : Stage) (fits : StageFits w s g) (perm : Permutation w 
 
   pub stage-uniform↔counted : Uniform w s (output (g .lists)) (g .table) ↔ CountedUniform w s (output (g .lists)) (g .table)
   stage-uniform↔counted = uniform↔counted w s (output (g .lists)) (g .table) stage-into (fits .table) perm right
+
+  -- as tests
+  pub stage-uniform-repeats : uniform w s g ≡ not (repeats (2 ^ (w * s)) (output (g .lists)))
+  stage-uniform-repeats = go (repeats (2 ^ (w * s)) (output (g .lists))) refl
+    where
+      go : (b : Bool) → repeats (2 ^ (w * s)) (output (g .lists)) ≡ b → uniform w s g ≡ not b
+      go true e = not-true-false _ (λ u. repeats-clash (2 ^ (w * s)) (output (g .lists)) e (stage-uniform→injective (uniform↔ w s g .0 u)))
+      go false e = uniform↔ w s g .1 (stage-injective→uniform (repeats→injective (2 ^ (w * s)) (output (g .lists)) e))
 
 -- ---- a function that does not depend on share j is a function of the setting
 

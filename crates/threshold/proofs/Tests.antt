@@ -1,16 +1,17 @@
 -- Each test of a stage means its proposition: the test passes exactly when the proposition holds. A test that fails has a place where it does.
 -- Assumes nothing.
-use mathlib.Core.Path.{_≡_, sym, ap, _∙_}
+use mathlib.Core.Path.{_≡_, refl, sym, ap, _∙_}
 use mathlib.Core.Logic.{_↔_, _≢_}
-use mathlib.Core.Bool.{true, false, _&&_, not}
+use mathlib.Core.Bool.{Bool, true, false, _&&_, not}
 use mathlib.Core.List.{List}
 use Prim.Native.Nat.{ℕ, _*_, _^_, _<_}
 use lib.Dec.{eqb}
 use borrow.Author.Tests.{eqb-true, eqb-false, eq-eqb, ne-eqb, not-true, not-false}
+use Rattle.finite.specs.Tests.{any}
 use Rattle.finite.proofs.Testing.{all-at, all-intro, any-at, any-some, any-none, none-any, implies-at, implies-intro, and-intro, and-left, and-right}
 use Rattle.anf.specs.Tables.{entry}
 use Rattle.design.specs.Design.{Stage}
-use Rattle.threshold.specs.Sharing.{share, sum, withShare}
+use Rattle.threshold.specs.Sharing.{sum, withShare}
 use Rattle.threshold.specs.Stages.{output, component, Correct, Ignores, NonComplete, Uniform, correct, readsOwn, nonComplete, sharingsTo, uniform}
 use Rattle.threshold.proofs.Sharing.{sum-shares}
 use Rattle.threshold.proofs.Carried.{Even, count→exactly, exactly→count}
@@ -81,6 +82,15 @@ module _ (w s : ℕ) (g : Stage) where
     λ e j l. ignores↔ j .0 (any-none s (readsOwn w s g) (not-true _ e) j l),
     λ h. ap not (none-any s (readsOwn w s g) (λ j l. ignores↔ j .1 (h j l))),
   )
+
+  -- it fails where some component depends on its own share
+  pub not-nonComplete : not (nonComplete w s g) ≡ any s (readsOwn w s g)
+  unfolding nonComplete
+  not-nonComplete = go (any s (readsOwn w s g))
+    where
+      go : (b : Bool) → not (not b) ≡ b
+      go true = refl
+      go false = refl
 
   -- ---- uniform
 

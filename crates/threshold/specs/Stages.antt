@@ -54,8 +54,12 @@ CountedUniform w s out g =
 
 -- ---- The same as tests of a stage (the paper's "Verdict").
 
+-- at σ the output of the lists sums to what the table makes of the sum
+abbrev pub sumsRight : ℕ → ℕ → List (List ℕ) → List ℕ → ℕ → Bool
+sumsRight w s ls g σ = eqb (sum w s (output ls σ)) (entry g (sum w s σ))
+
 unfoldable pub correct : ℕ → ℕ → Stage → Bool
-correct w s g = all (2 ^ (w * s)) (λ σ. eqb (sum w s (output (g .lists) σ)) (entry (g .table) (sum w s σ)))
+correct w s g = all (2 ^ (w * s)) (sumsRight w s (g .lists) (g .table))
 
 -- component j depends on share j
 unfoldable pub readsOwn : ℕ → ℕ → Stage → ℕ → Bool

@@ -1,6 +1,6 @@
--- `judge` meets its contract: each way out is a law of `Deciding`, whose premises `search` finds among what is known there.
+-- `judge` meets its contract: each way out is a law of `JudgingDesign`, whose premises `search` finds among what is known there.
 use borrow.Author.Needs.{needs}
-use Rattle.checker.proofs.Deciding.{read-well, unread, unread-after, design-answers, design-after}
+use Rattle.checker.proofs.JudgingDesign.{read-well, unread, unread-after, design-answers, design-after}
 use Rattle.checker.proofs.judge.Statement.{statement}
 use Rattle.checker.proofs.judge.Tie as tie
 

@@ -1,6 +1,6 @@
--- `judge_chain` meets its contract: each way out is a law of `Deciding`, whose premises `search` finds among what is known there.
+-- `judge_chain` meets its contract: each way out is a law of `JudgingDesign`, whose premises `search` finds among what is known there.
 use borrow.Author.Needs.{needs}
-use Rattle.checker.proofs.Deciding.{chain-wrong, table-repeated, none-left, stages-answer}
+use Rattle.checker.proofs.JudgingDesign.{chain-wrong, table-repeated, none-left, stages-answer}
 use Rattle.checker.proofs.judge_chain.Statement.{statement}
 use Rattle.checker.proofs.judge_chain.Tie as tie
 

@@ -1,8 +1,8 @@
--- `judge_design` meets its contract: each way out is a law of `Deciding`, whose premises `search` finds among what is known there.
+-- `judge_design` meets its contract: each way out is a law of `JudgingDesign`, whose premises `search` finds among what is known there.
 use borrow.Author.Needs.{needs}
-use Rattle.checker.proofs.Deciding.{box-repeated, box-repeated-after, no-room, no-room-after, chain-answers, chain-after}
+use Rattle.checker.proofs.JudgingDesign.{box-repeated, box-repeated-after, no-room, no-room-after, chain-answers, chain-after}
 use Rattle.design.proofs.Found.{bits-high}
-use Rattle.checker.proofs.Zeroed.{room-stays, stays-zeroed}
+use Rattle.checker.proofs.Workspace.{room-stays, stays-zeroed}
 use Rattle.checker.proofs.judge_design.Statement.{statement}
 use Rattle.checker.proofs.judge_design.Tie as tie
 

@@ -2,9 +2,11 @@
 use mathlib.Core.Path.{_≡_}
 use Prim.Native.Nat.{_-_, _≤_}
 use native.Mathlib.Omega.{arith}
+use lib.Dec.{lit≤}
 use borrow.Author.Needs.{needs}
-use Rattle.checker.proofs.Answering.{Faultless, stages-start, stages-done, stages-stop, stages-go}
-use Rattle.checker.proofs.Zeroed.{same-room, same-zeroed, same-length, same-through, same-length-through}
+use Rattle.checker.proofs.StageFacts.{stage-fits}
+use Rattle.checker.proofs.JudgingStages.{Faultless, stages-start, stages-done, stages-stop, stages-go}
+use Rattle.checker.proofs.Workspace.{same-room, same-zeroed, same-length, same-through, same-length-through}
 use Rattle.checker.proofs.judge_stages.Statement.{statement}
 use Rattle.checker.proofs.judge_stages.Tie as tie
 
@@ -24,7 +26,7 @@ judge-stages-spec =
     (λ c κs. search (arith, same-room, same-zeroed))
     (λ c. search same-length-through)
     (λ c. search (stages-stop, same-through))
-    (λ c. search needs)
+    (λ c. search (lit≤, stage-fits))
     (λ c. search needs)
     (λ c. search (arith, stages-go, same-through))
     (λ c κs. search needs)

@@ -2,7 +2,7 @@
 use Prim.Native.Nat.{_-_, _≤_}
 use native.Mathlib.Omega.{arith}
 use borrow.Author.Needs.{needs}
-use Rattle.checker.proofs.Zeroed.{ZeroedTo, zeroed-none, zeroed-more, zeroed-all}
+use Rattle.checker.proofs.Workspace.{ZeroedTo, zeroed-none, zeroed-more, zeroed-all}
 use Rattle.checker.proofs.marks.clear.Statement.{statement}
 use Rattle.checker.proofs.marks.clear.Tie as tie
 

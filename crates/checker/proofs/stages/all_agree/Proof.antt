@@ -5,7 +5,7 @@ use Prim.Native.Nat.{_-_, _≤_}
 use native.Mathlib.Omega.{arith}
 use borrow.Author.Needs.{needs}
 use Rattle.design.specs.inside.StageLists.{listsOf}
-use Rattle.checker.specs.Parts.{agreeing}
+use Rattle.checker.specs.inside.Parts.{agreeing}
 use Rattle.checker.proofs.Agreeing.{agree-start, agree-wrong, agree-more, agree-end}
 use Rattle.checker.proofs.stages.all_agree.Statement.{statement}
 use Rattle.checker.proofs.stages.all_agree.Tie as tie

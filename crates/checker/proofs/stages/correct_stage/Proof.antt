@@ -1,7 +1,8 @@
 -- `correct_stage` meets its contract: the lists and the table that it hands on are those of the stage.
 use borrow.Author.Needs.{needs}
 use Rattle.design.proofs.Found.{limits, width-high}
-use Rattle.checker.proofs.Agreeing.{some-bits, table-points, lists-stand, stage-agrees}
+use Rattle.checker.proofs.Agreeing.{stage-agrees}
+use Rattle.checker.proofs.StageFacts.{some-bits, table-points, lists-stand}
 use Rattle.checker.proofs.stages.correct_stage.Statement.{statement}
 use Rattle.checker.proofs.stages.correct_stage.Tie as tie
 

@@ -3,12 +3,12 @@ use Prim.Native.Nat.{_-_, _^_}
 use borrow.Author.Needs.{needs}
 use Rattle.design.specs.inside.StageLists.{listsOf}
 use Rattle.threshold.specs.Stages.{output}
-use Rattle.checker.proofs.Marking.{Run, run-start, run-inside, run-found, run-rest, run-step, run-none}
+use Rattle.checker.proofs.Marking.{MarkedTo, marked-start, marked-inside, marked-found, marked-rest, marked-step, marked-none}
 use Rattle.checker.proofs.stages.mark_all.Statement.{statement}
 use Rattle.checker.proofs.stages.mark_all.Tie as tie
 
 abbrev Inv-loop : tie.InvT-loop
-Inv-loop file starts first count workspace₀ n x₀ workspace x = Run (2 ^ count) (output (listsOf file starts first count)) workspace₀ workspace x
+Inv-loop file starts first count workspace₀ n x₀ workspace x = MarkedTo (2 ^ count) (output (listsOf file starts first count)) workspace₀ workspace x
 
 abbrev μ-loop : tie.MeasureT-loop
 μ-loop file starts first count workspace₀ n x₀ workspace x = n - x
@@ -20,14 +20,14 @@ mark-all-spec =
     Inv-loop
     μ-loop
     (λ c κs. search needs)
-    (λ c. search run-start)
+    (λ c. search marked-start)
     (λ c κs. search needs)
     (λ c. search needs)
-    (λ c κs. search run-inside)
+    (λ c κs. search marked-inside)
     (λ c. search needs)
-    (λ c. search (run-found, run-rest))
+    (λ c. search (marked-found, marked-rest))
     (λ c. search needs)
     (λ c. search needs)
-    (λ c. search run-step)
+    (λ c. search marked-step)
     (λ c. search needs)
-    (λ c. search run-none))
+    (λ c. search marked-none))

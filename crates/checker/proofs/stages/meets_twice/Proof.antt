@@ -1,9 +1,9 @@
 -- `meets_twice` meets its contract: cleared, marked within what was cleared, and cleared again.
 use borrow.Author.Needs.{needs}
-use Rattle.checker.proofs.Zeroed.{room-stays}
-use Rattle.checker.proofs.Marking.{cleared-again}
 use Rattle.design.proofs.Found.{limits, bits-high}
-use Rattle.checker.proofs.Agreeing.{some-bits, enough-bits, bits-fit, none-marked, lists-stand, stage-meets}
+use Rattle.checker.proofs.Workspace.{room-stays}
+use Rattle.checker.proofs.Marking.{cleared-again, none-marked, stage-meets}
+use Rattle.checker.proofs.StageFacts.{some-bits, enough-bits, bits-fit, lists-stand}
 use Rattle.checker.proofs.stages.meets_twice.Statement.{statement}
 use Rattle.checker.proofs.stages.meets_twice.Tie as tie
 

@@ -5,7 +5,8 @@ use native.Mathlib.Omega.{arith}
 use borrow.Author.Needs.{needs}
 use Rattle.design.proofs.Found.{width-high}
 use Rattle.threshold.proofs.Sharing.{place-lt}
-use Rattle.checker.proofs.Judging.{NoTerm, NoList, NoComponent, no-term-yet, no-list-yet, no-component-yet, no-term-more, no-list-more, no-component-more, offending-found, offending-none, few-shares, place-fits, row-fits}
+use Rattle.checker.proofs.OwnShare.{NoTerm, NoList, NoComponent, no-term-yet, no-list-yet, no-component-yet}
+use Rattle.checker.proofs.OwnShare.{no-term-more, no-list-more, no-component-more, offending-found, offending-none, few-shares, place-fits, row-fits}
 use Rattle.checker.proofs.stages.offending.Statement.{statement}
 use Rattle.checker.proofs.stages.offending.Tie as tie
 

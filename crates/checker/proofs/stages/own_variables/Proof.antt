@@ -1,6 +1,6 @@
 -- `own_variables` meets its contract: the shift loses no bit.
 use borrow.Author.Needs.{needs}
-use Rattle.checker.proofs.Agreeing.{place-below-32, place-fits-32, place-fits-64, own-shifted, some-points, few-points-less}
+use Rattle.checker.proofs.OwnShare.{place-below-32, place-fits-32, place-fits-64, own-shifted, some-points, few-points-less}
 use Rattle.checker.proofs.stages.own_variables.Statement.{statement}
 use Rattle.checker.proofs.stages.own_variables.Tie as tie
 

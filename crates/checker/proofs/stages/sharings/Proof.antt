@@ -1,6 +1,6 @@
 -- `sharings` meets its contract.
 use borrow.Author.Needs.{needs}
-use Rattle.checker.proofs.Agreeing.{few-sharings}
+use Rattle.checker.proofs.StageFacts.{few-sharings}
 use Rattle.checker.proofs.stages.sharings.Statement.{statement}
 use Rattle.checker.proofs.stages.sharings.Tie as tie
 

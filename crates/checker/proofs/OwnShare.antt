@@ -1,16 +1,18 @@
--- Whether a component depends on its own share, over the design that a file means: what a term that is looked at shows of the test.
+-- Whether a component depends on its own share: the laws of `own_variables` and `offending`, at each way out and for a turn, over plain values.
 -- Assumes nothing.
 use mathlib.Core.Path.{_≡_, refl, sym, ap, ap₂, _∙_, subst}
-use mathlib.Core.List.{List, [], _∷_}
+use mathlib.Core.List.{List}
 use mathlib.Core.Bool.{Bool, true, false}
-use Prim.Native.Nat.{ℕ, zero, suc, _+_, _*_, _^_, _<_, _≤_}
-use native.Mathlib.Nat.{le-of-suc-le-suc, not-suc-le-zero}
+use Prim.Native.Nat.{ℕ, _+_, _*_, _^_, _<_, _≤_, _-_, _%_}
 use native.Mathlib.Omega.{arith}
 use lib.ListN.{length, getD}
+use lib.Pow.{pow-pos, pow-mono, shl-exact}
+use native.Mathlib.Nat.{mul-le-mul}
 use Rattle.finite.specs.Tests.{any, first}
-use Rattle.finite.proofs.Testing.{any-at, or-left, or-right, or-none, any-none, any-none-more, first-found, first-none}
-use Rattle.anf.specs.Terms.{TermList, names}
-use Rattle.design.specs.Limits.{greatestShares}
+use Rattle.finite.proofs.Testing.{any-at, any-none, any-none-more, first-found, first-none}
+use Rattle.anf.specs.Terms.{TermList, named, names}
+use Rattle.anf.proofs.Terms.{names-at, names-none}
+use Rattle.design.specs.Limits.{greatestShares, greatestWidth}
 use Rattle.design.specs.Bytes.{terms, termBytes}
 use Rattle.design.specs.Design.{stageOf, listOf}
 use Rattle.design.specs.Reading.{meaning}
@@ -22,20 +24,33 @@ use Rattle.threshold.specs.inside.Variables.{variables}
 use Rattle.threshold.specs.Stages.{readsOwn}
 use Rattle.threshold.proofs.Sharing.{place-lt}
 use Rattle.threshold.proofs.Dependence.{reads-names}
-use Rattle.checker.specs.Marks.{named}
 
--- ---- names, term by term
+-- ---- `own_variables`: p is the number of points of m variables
 
-names-one : (group : ℕ) (ts : List ℕ) (i : ℕ) → i < length ts → named group (getD ts i 0) ≡ true → names group ts ≡ true
-unfolding names
-names-one group [] i l e = absurd (not-suc-le-zero l)
-names-one group (t ∷ ts) zero l e = or-left _ _ e
-names-one group (t ∷ ts) (suc i) l e = or-right (named group t) (names group ts) (names-one group ts i (le-of-suc-le-suc l) e)
+module _ (m j : ℕ) (hm : m ≤ greatestWidth) (hj : j < greatestShares) where
+  low-places : m * j ≤ 24
+  low-places = mul-le-mul {n₁ = m} {m₁ = j} {n₂ = 6} {m₂ = 4} hm (omega arith)
 
-names-none : (group : ℕ) (ts : List ℕ) → ((i : ℕ) → i < length ts → named group (getD ts i 0) ≡ false) → names group ts ≡ false
-unfolding names
-names-none group [] h = refl
-names-none group (t ∷ ts) h = or-none (h 0 (omega arith)) (names-none group ts (λ i l. h (suc i) (omega arith)))
+  -- the shift is of a place in the word, and fits every width
+  pub place-below-32 : m * j < 32
+  place-below-32 = let q = low-places in omega arith
+
+  pub place-fits-32 : m * j < 2 ^ 32
+  place-fits-32 = let q = low-places in omega arith
+
+  pub place-fits-64 : m * j < 2 ^ 64
+  place-fits-64 = let q = low-places in omega arith
+
+  pub own-shifted : (p : ℕ) → p ≡ 2 ^ m → (p - 1) * 2 ^ (m * j) % 2 ^ 32 ≡ variables m j
+  unfolding variables
+  own-shifted p e =
+      rw e (shl-exact 6 (m * j) 32 (let q : 2 ^ m ≤ 2 ^ 6 = pow-mono hm in let z = pow-pos m in omega arith) (let q = low-places in omega arith))
+
+pub some-points : (m p : ℕ) → p ≡ 2 ^ m → 1 ≤ p
+some-points m p e = let z = pow-pos m in omega arith
+
+pub few-points-less : (m p : ℕ) → p ≡ 2 ^ m → m ≤ greatestWidth → p - 1 < 4294967296
+few-points-less m p e h = let q : 2 ^ m ≤ 2 ^ 6 = pow-mono h in omega arith
 
 -- ---- what the three loops of `offending` have found
 
@@ -115,7 +130,7 @@ module _ (f : List ℕ) (l : Layout) (t : ℕ) (h : t < l .head .k) (d : Describ
         → (list : List ℕ) → y ≡ getD (terms list) i 0 → n ≡ length (terms list) → list ≡ termBytes (listOf (meaning f) t (l .head .m * j + b)) → j ≡ first (l .head .s) (dependsOwn f l t)
     unfolding NoComponent
     offending-found so k e b c i n w r q y er list ey en el =
-        let one : names own (terms list) ≡ true = names-one own (terms list) i (omega arith) (ap (named own) (sym ey) ∙ sym er ∙ q) in
+        let one : names own (terms list) ≡ true = names-at own (terms list) i (omega arith) (ap (named own) (sym ey) ∙ sym er ∙ q) in
         let it : listNames f l t own j b ≡ true = subst (λ (ts : List ℕ). names own ts ≡ true) (list-terms list _ el) one in
         sym (first-found (l .head .s) (dependsOwn f l t) j k so
         (depends-names j k ∙ any-at (l .head .m) (listNames f l t (variables (l .head .m) j) j) b c (subst (λ (x : ℕ). listNames f l t x j b ≡ true) e it)))

@@ -1,15 +1,54 @@
--- A workspace of which the first bytes are zeroed, one that is as it was, and `clear`.
+-- The workspace: what a verdict leaves of it, bytes zeroed in front, bytes as they were, and `clear`.
 -- Assumes nothing.
 use mathlib.Core.Path.{_≡_, refl, sym, ap, _∙_}
-use mathlib.Core.List.{List, _++_}
-use Prim.Native.Nat.{ℕ, _+_, _≤_, _<_}
+use mathlib.Core.Logic.{_⊎_, inl, inr}
+use mathlib.Core.List.{List, [], _∷_, _++_}
+use Prim.Native.Nat.{ℕ, suc, _+_, _≤_, _<_}
 use native.Mathlib.Omega.{arith}
 use lib.ListN.{length, set, drop, replicate, length-set, length-replicate}
 use lib.Seq.{drop-at}
+use lib.Dec.{leb}
 use borrow.Author.Fill.{fill-more}
-use Rattle.checker.specs.Marks.{zeroed}
+use borrow.Author.Tests.{le-leb, lt-leb}
+use Rattle.finite.specs.Faults.{firstFault}
+use Rattle.finite.proofs.Testing.{and-intro, and-false-right, pick-true, pick-false}
+use Rattle.finite.proofs.Faults.{fault-none, fault-append, fault-either}
+use Rattle.design.specs.Design.{Stage, Design}
+use Rattle.checker.specs.Verdict.{answer, workspaceFor, stageFaults, stagesFaults, zeroed, workspaceLeft}
+use Rattle.checker.specs.inside.Parts.{chainJudged}
+use Rattle.checker.specs.declared.Verdict.{Verdict}
 
--- zeroed bytes stay so, and are as many
+-- ---- what a verdict leaves, by its reason
+
+module _ (d : Design) (reason : ℕ) (ws : List ℕ) where
+  pub untouched : 1 ≤ reason → reason ≤ 9 → workspaceLeft d reason ws ≡ ws
+  unfolding workspaceLeft
+  untouched l h = pick-true _ _ _ (and-intro (le-leb 1 reason l) (le-leb reason 9 h))
+
+  pub cleared : (reason ≡ 0) ⊎ (10 ≤ reason) → workspaceLeft d reason ws ≡ zeroed (workspaceFor (d .m) (d .s)) ws
+  unfolding workspaceLeft
+  cleared (inl z) = rw z refl
+  cleared (inr h) = pick-false _ _ _ (and-false-right (leb 1 reason) (leb reason 9) (lt-leb reason 9 h))
+
+-- past 8 and 9 the reason is 0, or 10 and above
+abbrev Late : Verdict → Type 0
+Late v = (v .reason ≡ 0) ⊎ (10 ≤ v .reason)
+
+late-stages : (d : Design) (i : ℕ) (gs : List Stage) → Late (firstFault (stagesFaults answer d i gs) (answer 0 (d .k) 0))
+unfolding stagesFaults
+late-stages d i [] = rw (fault-none (answer 0 (d .k) 0)) (inl refl)
+late-stages d i (g ∷ gs) =
+    rw (fault-append (stageFaults answer d i g) (stagesFaults answer d (suc i) gs) (answer 0 (d .k) 0))
+    (fault-either Late _ _ _ _ (λ e. inr (omega arith))
+    (λ e. fault-either Late _ _ _ _ (λ e. inr (omega arith))
+    (λ e. fault-either Late _ _ _ _ (λ e. inr (omega arith)) (λ e. rw fault-none (late-stages d (suc i) gs)))))
+
+pub late-reasons : (d : Design) → Late (chainJudged d)
+unfolding chainJudged
+late-reasons d =
+    fault-either Late _ _ _ _ (λ e. inr (omega arith)) (λ e. fault-either Late _ _ _ _ (λ e. inr (omega arith)) (λ e. late-stages d 1 (d .stages)))
+
+-- ---- zeroed bytes stay so, and are as many
 
 zeroed-twice : (n : ℕ) (l : List ℕ) → zeroed n (zeroed n l) ≡ zeroed n l
 zeroed-twice n l = ap (λ (r : List ℕ). replicate n 0 ++ r) (drop-at (replicate n 0) (drop n l) n (length-replicate {A = ℕ} n 0))
