@@ -10,7 +10,7 @@ use native.Mathlib.Decide.{ℕ-discrete}
 use native.Mathlib.Omega.{arith}
 use lib.Dec.{eqb, lit<}
 use lib.ListN.{length, getD, set, drop, replicate, length-set, List·getD-append, getD-replicate, length-replicate}
-use lib.Seq.{getD-set-same, getD-set-other, drop-set-lt, drop-at}
+use lib.Seq.{getD-set-same, getD-set-other, drop-set-lt}
 use lib.Bits.{bitOr}
 use lib.Pow.{shl-exact}
 use borrow.Author.Tests.{eq-eqb, ne-eqb}
@@ -81,13 +81,6 @@ clear-none n l rest whole q y h =
     rw (q, List·getD-append (replicate k 0) rest 0 (y / 8) (rw length-replicate e), getD-replicate {A = ℕ} k (y / 8) 0 0 e)
     (has-none (y % 8))
 
--- cleared, marked within the first k bytes, and cleared again
-cleared-same : (k : ℕ) (l₀ l₁ l₂ l₃ : List ℕ) → l₁ ≡ zeroed k l₀ → drop k l₂ ≡ drop k l₁ → l₃ ≡ zeroed k l₂ → l₃ ≡ zeroed k l₀
-cleared-same k l₀ l₁ l₂ l₃ a b c = rw (c, b, a, drop-at (replicate k 0) (drop k l₀) k (length-replicate {A = ℕ} k 0)) refl
-
-pub cleared-again : (n k : ℕ) → n ≡ k → (l₀ l₁ l₂ l₃ : List ℕ) → l₁ ≡ zeroed n l₀ → drop k l₂ ≡ drop k l₁ → l₃ ≡ zeroed n l₂ → l₃ ≡ zeroed k l₀
-cleared-again n k e l₀ l₁ l₂ l₃ a b c = cleared-same k l₀ l₁ l₂ l₃ (subst (λ (x : ℕ). l₁ ≡ zeroed x l₀) e a) b (subst (λ (x : ℕ). l₃ ≡ zeroed x l₂) e c)
-
 -- ---- what a run has found
 
 -- i outputs are marked, and none twice
@@ -143,8 +136,8 @@ module _ (e : ℕ) (g : ℕ → ℕ) (l₀ l : List ℕ) (i : ℕ) (r : MarkedTo
 -- ---- `meets_twice`: zeroed bytes mark nothing, and the lists are the stage's
 
 module _ (f : List ℕ) (l : Layout) (d : Describes f l) where
-  pub none-marked : (n : ℕ) (ws ws₁ : List ℕ) → n ≡ markBytes l → ws₁ ≡ zeroed n ws → Clear (2 ^ (l .head .m * l .head .s)) ws₁
-  none-marked n ws ws₁ e q = clear-none (2 ^ (l .head .m * l .head .s)) ws₁ (drop n ws) (eights _ (enough-bits f l d)) (q ∙ ap (λ (x : ℕ). replicate x 0 ++ drop n ws) e)
+  pub none-marked : (ws : List ℕ) → zeroed (markBytes l) ws ≡ ws → Clear (2 ^ (l .head .m * l .head .s)) ws
+  none-marked ws e = clear-none (2 ^ (l .head .m * l .head .s)) ws (drop (markBytes l) ws) (eights _ (enough-bits f l d)) (sym e)
 
 module _ (f : List ℕ) (l : Layout) (t : ℕ) (h : t < l .head .k) (d : Describes f l) (first : ℕ) (e : first ≡ numberOf (l .head) t 1) (bytes : Fit (fInt w8) 0 f) where
   pub stage-meets : (r : Bool) → r ≡ repeats (2 ^ (l .head .m * l .head .s)) (output (listsOf f (l .starts) first (l .head .m * l .head .s)))

@@ -61,9 +61,12 @@ stays-zeroed n k l l₁ e q =
 pub room-stays : (n k : ℕ) (l l₁ : List ℕ) → n ≡ k → n ≤ length l → length l₁ ≡ length l → k ≤ length l₁
 room-stays n k l l₁ e h q = omega arith
 
--- zeroed where it was zero
-pub zeroed-same : (n : ℕ) (l l₁ : List ℕ) → l₁ ≡ zeroed n l → zeroed n l ≡ l → l₁ ≡ l
-zeroed-same n l l₁ e q = e ∙ q
+pub room-kept : (n k : ℕ) (l l₁ : List ℕ) → n ≡ k → k ≤ length l → length l₁ ≡ length l → n ≤ length l₁
+room-kept n k l l₁ e h q = omega arith
+
+-- zero bytes that are zeroed again, whatever was written to them, are as they were
+pub zeroed-again : (n k : ℕ) → n ≡ k → (l l₁ l₂ : List ℕ) → zeroed k l ≡ l → drop k l₁ ≡ drop k l → l₂ ≡ zeroed n l₁ → l₂ ≡ l
+zeroed-again n k e l l₁ l₂ z d q = q ∙ ap (λ (x : ℕ). zeroed x l₁) e ∙ ap (λ (r : List ℕ). replicate k 0 ++ r) d ∙ z
 
 -- l₁ is l, and l is l₀
 module _ (l₀ l : List ℕ) (e : l ≡ l₀) where

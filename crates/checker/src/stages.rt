@@ -17,9 +17,8 @@ ghost use Rattle.design.specs.inside.StageLists.{listsOf};
 ghost use Rattle.threshold.specs.Sharing.{sum};
 ghost use Rattle.threshold.specs.inside.Variables.{variables};
 ghost use Rattle.threshold.specs.Stages.{output, correct, readsOwn};
-ghost use Rattle.checker.specs.Verdict.{zeroed};
 ghost use Rattle.checker.specs.inside.Parts.{Standing, agreeing};
-ghost use Rattle.checker.specs.inside.Marks.{Clear, markBytes};
+ghost use Rattle.checker.specs.inside.Marks.{Clear, Cleared, markBytes};
 
 // Whether the output sharing `y` sums to what the table makes of the sum of the sharing `x`.
 fn agrees(table: &[u8], m: usize, s: usize, x: u32, y: u32) -> bool
@@ -138,17 +137,16 @@ fn mark_all(file: &[u8], starts: &[usize], first: usize, count: usize, workspace
     false
 }
 
-// Whether two sharings give one output of stage `t`. The workspace that the marks take is zero afterwards.
+// Whether two sharings give one output of stage `t`. The marks are zero before and after.
 pub fn meets_twice(file: &[u8], layout: Layout, t: usize, workspace: &mut [u8]) -> bool
-    requires { ⌜ Describes (now file) layout × (t < layout .head .k) × (markBytes layout ≤ length (now workspace)) ⌝ }
+    requires { ⌜ Describes (now file) layout × (t < layout .head .k) × Cleared layout (now workspace) ⌝ }
     ensures { λ r. ⌜ r ≡ repeats (2 ^ (layout .head .m * layout .head .s)) (output (stageOf (meaning (now (file .entry))) t .lists)) ⌝ }
-    ensures { λ _. ⌜ now (workspace .exit) ≡ zeroed (markBytes layout) (now (workspace .entry)) ⌝ }
+    ensures { λ _. ⌜ now (workspace .exit) ≡ now (workspace .entry) ⌝ }
 {
     let starts = layout.starts;
     let first = design::number(layout.head, t, 1);
     let bits = layout.head.m * layout.head.s;
     let n = mark_bytes(layout);
-    clear(workspace, n);
     let twice = mark_all(file, &starts, first, bits, workspace);
     clear(workspace, n);
     twice

@@ -1,8 +1,6 @@
 -- `judge_stage` meets its contract: each way out is a law of `JudgingStages`, whose premises `search` finds among what is known there.
--- The marks are as they were, since they are zero before and after.
 use borrow.Author.Needs.{needs}
 use Rattle.checker.proofs.JudgingStages.{answer-wrong, answer-reads, answer-twice, answer-fine}
-use Rattle.checker.proofs.Workspace.{zeroed-same}
 use Rattle.checker.proofs.judge_stage.Statement.{statement}
 use Rattle.checker.proofs.judge_stage.Tie as tie
 
@@ -23,7 +21,7 @@ judge-stage-spec =
     (λ c. search needs)
     (λ c κs. search needs)
     (λ c. search needs)
-    (λ c. search (answer-twice, zeroed-same))
+    (λ c. search answer-twice)
     (λ c κs. search needs)
     (λ c. search needs)
-    (λ c. search (answer-fine, zeroed-same)))
+    (λ c. search answer-fine))

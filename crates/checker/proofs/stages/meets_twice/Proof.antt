@@ -1,8 +1,8 @@
--- `meets_twice` meets its contract: cleared, marked within what was cleared, and cleared again.
+-- `meets_twice` meets its contract: marks are made within the bytes that were zero, and these are zeroed again.
 use borrow.Author.Needs.{needs}
 use Rattle.design.proofs.Found.{limits, bits-high}
-use Rattle.checker.proofs.Workspace.{room-stays}
-use Rattle.checker.proofs.Marking.{cleared-again, none-marked, stage-meets}
+use Rattle.checker.proofs.Workspace.{room-kept, zeroed-again}
+use Rattle.checker.proofs.Marking.{none-marked, stage-meets}
 use Rattle.checker.proofs.StageFacts.{some-bits, enough-bits, bits-fit, lists-stand}
 use Rattle.checker.proofs.stages.meets_twice.Statement.{statement}
 use Rattle.checker.proofs.stages.meets_twice.Tie as tie
@@ -14,9 +14,8 @@ meets-twice-spec =
     (λ c κs. search (limits, some-bits))
     (λ c. search bits-fit)
     (λ c κs. search bits-high)
-    (λ c κs. search needs)
     (λ c. search needs)
-    (λ c κs. search (lists-stand, enough-bits, room-stays, none-marked))
-    (λ c κs. search needs)
+    (λ c κs. search (enough-bits, lists-stand, none-marked))
+    (λ c κs. search room-kept)
     (λ c. search needs)
-    (λ c. search (stage-meets, cleared-again)))
+    (λ c. search (stage-meets, zeroed-again)))
