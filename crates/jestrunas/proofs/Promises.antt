@@ -2,13 +2,14 @@
 -- definitions that they name: the crates' specs/, without specs/inside/. Lists of numbers stand for bytes; `sum` and `xorBelow` are XOR. Assumes nothing.
 use mathlib.Core.Path.{_≡_}
 use mathlib.Core.Logic.{_↔_, _⊎_, _≢_}
-use mathlib.Core.Bool.{Bool, true}
+use mathlib.Core.Bool.{Bool, true, _&&_}
 use mathlib.Core.List.{List, [], _∷_, _++_, map}
-use Prim.Native.Nat.{ℕ, _^_, _≤_, _<_}
+use Prim.Native.Nat.{ℕ, _^_, _≤_, _<_, _*_}
 use lib.Count.{ones}
 use lib.ListN.{length, getD, take, drop}
+use lib.Dec.{eqb}
 use Rattle.finite.specs.Sums.{xorBelow}
-use Rattle.finite.specs.Tests.{tabulate}
+use Rattle.finite.specs.Tests.{count, tabulate}
 use Rattle.anf.specs.NormalForm.{subsetSum, degree}
 use Rattle.anf.specs.Terms.{valueAt, TermList, names, Depends, passing}
 use Rattle.anf.specs.Points.{Points, IgnoresPoint}
@@ -21,7 +22,7 @@ use Rattle.anf.proofs.Degree.{shares-bound}
 use Rattle.anf.proofs.Answers.{transform-back}
 use Rattle.anf.proofs.Bench as anf-bench
 use Rattle.design.specs.Bytes.{Bytes}
-use Rattle.design.specs.Design.{Stage, Design, StageFits, WellFormed, SameMeaning, count}
+use Rattle.design.specs.Design.{Stage, Design, StageFits, WellFormed, SameMeaning}
 use Rattle.design.specs.Encode.{encode}
 use Rattle.design.specs.Reading.{refused, means, reading}
 use Rattle.design.specs.Refused.{RefusedFor}

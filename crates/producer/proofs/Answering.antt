@@ -1,6 +1,6 @@
 -- What producing answers and leaves, one law for each way out.
 use mathlib.Core.Path.{_≡_, sym, ap, ap₂, _∙_, subst}
-use mathlib.Core.Logic.{_≢_}
+use mathlib.Core.Logic.{_≢_, ⊎-elim}
 use mathlib.Core.Bool.{Bool, true, false, not, _&&_}
 use mathlib.Core.List.{List, [], _∷_, _++_}
 use Prim.Native.Nat.{ℕ, _+_, _-_, _*_, _/_, _%_, _^_, _≤_, _<_}
@@ -14,7 +14,7 @@ use Rattle.finite.specs.Sets.{has}
 use Rattle.finite.specs.Maps.{repeats}
 use Rattle.finite.specs.Faults.{firstFault}
 use Rattle.finite.proofs.Faults.{fault-here, fault-past, fault-none}
-use Rattle.finite.proofs.Testing.{any-congr, tabulate-congr, tabulate-length, tabulate-at, not-true-false}
+use Rattle.finite.proofs.Testing.{any-congr, tabulate-congr, tabulate-length, tabulate-at, not-true-false, pick-true, pick-false, true-or-false}
 use Rattle.anf.specs.NormalForm.{subsetSum, degree}
 use Rattle.anf.specs.Tables.{entriesBelow, entry}
 use Rattle.anf.specs.inside.Words.{wordsDegree}
