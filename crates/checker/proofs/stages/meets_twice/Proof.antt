@@ -1,4 +1,5 @@
 -- `meets_twice` meets its contract: marks are made within the bytes that were zero, and these are zeroed again.
+use native.Mathlib.Omega.{arith}
 use borrow.Author.Needs.{needs}
 use Rattle.design.proofs.Found.{limits, bits-high}
 use Rattle.checker.proofs.Workspace.{room-kept, zeroed-again}
@@ -16,6 +17,6 @@ meets-twice-spec =
     (λ c κs. search bits-high)
     (λ c. search needs)
     (λ c κs. search (enough-bits, lists-stand, none-marked))
-    (λ c κs. search room-kept)
+    (λ c κs. search (arith, room-kept))
     (λ c. search needs)
     (λ c. search (stage-meets, zeroed-again)))
