@@ -88,9 +88,9 @@ module _ (N M : ℕ) (sum h g : ℕ → ℕ) (sum-lt : (σ : ℕ) → sum σ < M
       a b la lb (eq-eqb (h a) (h a) refl) (eq-eqb (h b) (h a) (sym e)))
 
   -- a test of what h gives passes as often among the numbers with the sum x as the test itself among those with the sum g x
-  pub counted : Injective N h → (p : ℕ → Bool) (x : ℕ) → x < M
+  pub count-carried : Injective N h → (p : ℕ → Bool) (x : ℕ) → x < M
       → count N (λ σ. eqb (sum σ) x && p (h σ)) ≡ count N (λ τ. eqb (sum τ) (g x) && p τ)
-  counted inj p x lx =
+  count-carried inj p x lx =
       count-congr N (λ σ. eqb (sum σ) x && p (h σ)) (λ σ. eqb (sum (h σ)) (g x) && p (h σ))
       (λ σ l. ap (λ (b : Bool). b && p (h σ))
       (bool-ext (eqb (sum σ) x) (eqb (sum (h σ)) (g x))

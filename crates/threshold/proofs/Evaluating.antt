@@ -125,14 +125,14 @@ module _ (f : List ℕ) (y : Layout) (d : Describes f y) where
     lists-before : y .head .m * j + y .head .m ≤ y .head .m * y .head .s
     lists-before = let e = mul-le-mul-left (y .head .m) h in let q = mul-suc (y .head .m) j in omega arith
 
-    pub list-within : y .head .m * j + 1 ≤ y .head .m * y .head .s
-    list-within = omega (arith, lists-before, described d .bounds .m-low)
+    pub first-within : y .head .m * j + 1 ≤ y .head .m * y .head .s
+    first-within = omega (arith, lists-before, described d .bounds .m-low)
 
-    pub lists-fit : Fits w64 (y .head .m * j)
-    lists-fit = record { fits = omega (arith, lists-before, described d .bounds .bits) }
+    pub before-fits : Fits w64 (y .head .m * j)
+    before-fits = record { fits = omega (arith, lists-before, described d .bounds .bits) }
 
-    pub list-fits : Fits w64 (y .head .m * j + 1)
-    list-fits = record { fits = omega (arith, lists-before, described d .bounds .bits) }
+    pub first-fits : Fits w64 (y .head .m * j + 1)
+    first-fits = record { fits = omega (arith, lists-before, described d .bounds .bits) }
 
     module _ (t : ℕ) (u : t < y .head .k) (first : ℕ) (e : first ≡ numberOf (y .head) t (y .head .m * j + 1)) (bytes : Fit (fInt w8) 0 f) where
       pub component-inside : AllInside f (y .starts) first (y .head .m)

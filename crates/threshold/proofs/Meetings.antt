@@ -20,7 +20,7 @@ use Rattle.threshold.specs.Sharing.{sum, setting, putShare}
 use Rattle.threshold.specs.Stages.{output, component, Correct, Ignores, Uniform}
 use Rattle.threshold.specs.Chain.{chained, handed, meetings}
 use Rattle.threshold.proofs.Sharing.{sum-lt, setting-lt, one-sharing}
-use Rattle.threshold.proofs.Carried.{Carries, counted, carries-none, carries-then, injective-then}
+use Rattle.threshold.proofs.Carried.{Carries, count-carried, carries-none, carries-then, injective-then}
 use Rattle.threshold.proofs.Stages.{stage-carries, stage-uniform→injective, of-setting}
 
 -- a stage that carries sharings one to one
@@ -64,7 +64,7 @@ unfolding meetings
 met-once w zero gs v x i j q lx lj lq = absurd (not-suc-le-zero lj)
 met-once w (suc s) gs v x i j q lx lj lq =
     let r = handed-carries w (suc s) i gs v in
-    counted (2 ^ (w * suc s)) (2 ^ w) (sum w (suc s)) (handed gs i) (chained (take i gs)) (sum-lt w (suc s)) (r .0) (r .1)
+    count-carried (2 ^ (w * suc s)) (2 ^ w) (sum w (suc s)) (handed gs i) (chained (take i gs)) (sum-lt w (suc s)) (r .0) (r .1)
     (λ τ. eqb (setting w j τ) q) x lx
     ∙ one-sharing w s j (chained (take i gs) x) q (le-of-suc-le-suc lj) (r .0 .g-into x lx) (subst (λ (k : ℕ). q < 2 ^ (w * k)) (sub-one (suc s)) lq)
 
