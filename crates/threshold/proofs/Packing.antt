@@ -5,23 +5,23 @@ use mathlib.Core.List.{List, _++_}
 use Prim.Native.Nat.{ℕ, zero, suc, _+_, _-_, _*_, _^_, _≤_, _<_}
 use native.Mathlib.Nat.{not-suc-le-zero, mul-comm, add-comm, mul-le-mul-left, le-refl, le-step, lt-of-lt-of-le}
 use native.Mathlib.Numerals.{add-one}
-use native.Mathlib.Decide.{decLt}
+use native.Mathlib.Decide.{decLt, ℕ-discrete}
 use native.Mathlib.Omega.{arith}
 use lib.Arith.{digits-lt}
 use lib.Pow.{pow-mono}
 use lib.Bits.{bitXor, xor-zero-r}
 use lib.Dec.{eqb, ltb}
-use lib.ListN.{length, getD, drop}
-use lib.Seq.{ext-getD}
+use lib.ListN.{length, getD, set, drop}
+use lib.Seq.{ext-getD, getD-set-same, getD-set-other}
 use borrow.Author.Tests.{eqb-true, ltb-true, lt-ltb, le-ltb}
 use Rattle.finite.specs.Tests.{pick, total, tabulate}
 use Rattle.finite.specs.Sums.{xorBelow}
 use Rattle.finite.proofs.Testing.{below, all-at, all-intro, pick-true, pick-false, tabulate-at, tabulate-length}
 use Rattle.finite.proofs.Sums.{xorBelow-none, xorBelow-add, xorBelow-ext}
 use Rattle.design.specs.Limits.{greatestShares, greatestShareBits}
-use Rattle.threshold.specs.Sharing.{share, sum}
+use Rattle.threshold.specs.Sharing.{share, sum, setting, withShare}
 use Rattle.threshold.specs.Running.{packed, unpacked, shareFits, sharesFit, fiveSum, fiveZeros}
-use Rattle.threshold.proofs.Sharing.{share-lt, share-low, share-top, sum-shares, pow-step, pow-zeroth, shares-eq}
+use Rattle.threshold.proofs.Sharing.{share-lt, share-low, share-top, share-put, share-with, with-lt, sum-shares, pow-step, pow-zeroth, shares-eq}
 
 -- ---- which shares a run takes
 
@@ -84,6 +84,25 @@ share-packed w (suc s) l h j k =
     ∙ below k
     (λ e. rw e (share-top w s (getD l s 0) (packed w s l) (h s (le-refl (suc s))) r))
     (λ u. share-low w s j (getD l s 0) (packed w s l) u r ∙ share-packed w s l below′ j u)
+
+-- a change of byte j alone
+pub packed-set : (w s : ℕ) (l : List ℕ) → length l ≡ s → ((i : ℕ) → i < s → getD l i 0 < 2 ^ w) → (j v : ℕ) → j < s → v < 2 ^ w
+    → packed w s (set l j v) ≡ withShare w j v (packed w s l)
+packed-set w s l n h j v k hv =
+    shares-eq w s (packed w s (set l j v)) (withShare w j v (packed w s l)) (packed-lt w s (set l j v) (λ i u. small i u (ℕ-discrete i j)))
+    (with-lt w s j v (packed w s l) k hv (packed-lt w s l h))
+    (λ i u. share-packed w s (set l j v) (λ a b. small a b (ℕ-discrete a j)) i u ∙ go i u (ℕ-discrete i j))
+  where
+    same : getD (set l j v) j 0 ≡ v
+    same = getD-set-same l j v 0 (subst (λ (x : ℕ). j < x) (sym n) k)
+
+    small : (i : ℕ) → i < s → Dec (i ≡ j) → getD (set l j v) i 0 < 2 ^ w
+    small i u (yes e) = rw (e, same) hv
+    small i u (no e) = rw (getD-set-other l j i v 0 e) (h i u)
+
+    go : (i : ℕ) → i < s → Dec (i ≡ j) → getD (set l j v) i 0 ≡ share w i (withShare w j v (packed w s l))
+    go i u (yes e) = rw e (same ∙ sym (share-put w j v (setting w j (packed w s l)) hv))
+    go i u (no e) = getD-set-other l j i v 0 e ∙ sym (share-with w j i v (packed w s l) e hv ∙ share-packed w s l h i u)
 
 -- ---- a sharing as five bytes
 

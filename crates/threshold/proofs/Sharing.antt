@@ -1,10 +1,12 @@
 -- A sharing is its share j and its setting of component j, and its sum is the xor of that share and the sum of the setting.
 -- Shares stand at the places of powers of 2; only the sum over the shares needs induction. Assumes nothing.
 use mathlib.Core.Path.{_≡_, refl, sym, ap, ap₂, _∙_, subst}
+use mathlib.Core.Logic.{_≢_}
 use mathlib.Core.Bool.{_&&_}
 use Prim.Native.Nat.{ℕ, zero, suc, _+_, _-_, _*_, _/_, _%_, _^_, _≤_, _<_}
 use native.Mathlib.Nat.{le-of-suc-le-suc, not-suc-le-zero, add-zero, add-comm, add-assoc, mul-zero, mul-one, mul-suc, mul-comm, mul-assoc, mul-add, add-mul}
 use native.Mathlib.Nat.{add-sub-of-le, mul-le-mul-left, div-one, div-add-mod', div-div-eq-div-mul, div-lt-iff-lt-mul, mod-one, mod-lt, mod-eq-of-lt}
+use native.Mathlib.Decide.{decLt}
 use native.Mathlib.Omega.{arith}
 use lib.Arith.{digits-lt, digits-div, digits-mod, mod-mul, lt-one}
 use lib.Pow.{pow-pos, pow-add, field, mod-mod-pow, shr-shr, low}
@@ -73,6 +75,22 @@ setting-suc : (w j σ : ℕ) → setting w (suc j) σ ≡ setting w j (σ / 2 ^ 
 unfolding setting
 setting-suc w j σ = simp (div-step, mod-step) (simp (pow-step, add-mul, mul-assoc, add-assoc))
 
+setting-next : (w j i σ : ℕ) → share w (suc i) (setting w (suc j) σ) ≡ share w i (setting w j (σ / 2 ^ w))
+setting-next w j i σ =
+    ap (share w (suc i)) (setting-suc w j σ) ∙ share-suc w i _ ∙ ap (share w i) (digits-div (setting w j (σ / 2 ^ w)) (mod-lt σ (pow-pos w)))
+
+-- the shares of a setting: those below share j, then those above it
+pub share-setting-below : (w j i σ : ℕ) → i < j → share w i (setting w j σ) ≡ share w i σ
+share-setting-below w zero i σ h = absurd (not-suc-le-zero h)
+share-setting-below w (suc j) zero σ h =
+    ap (share w 0) (setting-suc w j σ) ∙ share-zero w _ ∙ digits-mod (setting w j (σ / 2 ^ w)) (mod-lt σ (pow-pos w)) ∙ sym (share-zero w σ)
+share-setting-below w (suc j) (suc i) σ h = setting-next w j i σ ∙ share-setting-below w j i (σ / 2 ^ w) (le-of-suc-le-suc h) ∙ sym (share-suc w i σ)
+
+pub share-setting-above : (w j i σ : ℕ) → j ≤ i → share w i (setting w j σ) ≡ share w (suc i) σ
+share-setting-above w zero i σ h = ap (share w i) (setting-zero w σ) ∙ sym (share-suc w i σ)
+share-setting-above w (suc j) zero σ h = absurd (not-suc-le-zero h)
+share-setting-above w (suc j) (suc i) σ h = setting-next w j i σ ∙ share-setting-above w j i (σ / 2 ^ w) (le-of-suc-le-suc h) ∙ sym (share-suc w (suc i) σ)
+
 -- ---- the sum
 
 -- the lowest share, and the sum of the others
@@ -130,6 +148,20 @@ module _ (w j : ℕ) where
   -- a change of share j alone
   pub setting-with : (v σ : ℕ) → v < 2 ^ w → setting w j (withShare w j v σ) ≡ setting w j σ
   setting-with v σ h = setting-put v (setting w j σ) h
+
+  -- no other share changes
+  pub share-with : (i v σ : ℕ) → i ≢ j → v < 2 ^ w → share w i (withShare w j v σ) ≡ share w i σ
+  share-with i v σ n h = go (decLt i j) i refl
+    where
+      e : setting w j (withShare w j v σ) ≡ setting w j σ
+      e = setting-with v σ h
+
+      go : Dec (i < j) → (k : ℕ) → i ≡ k → share w i (withShare w j v σ) ≡ share w i σ
+      go (yes l) k q = sym (share-setting-below w j i (withShare w j v σ) l) ∙ ap (share w i) e ∙ share-setting-below w j i σ l
+      go (no l) zero q = absurd (n (omega arith))
+      go (no l) (suc k) q =
+          let a : j ≤ k = omega arith in
+          rw q (sym (share-setting-above w j k (withShare w j v σ) a) ∙ ap (share w k) e ∙ share-setting-above w j k σ a)
 
   pub with-own : (σ : ℕ) → withShare w j (share w j σ) σ ≡ σ
   with-own σ = put-share-setting σ
