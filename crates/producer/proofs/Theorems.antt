@@ -18,16 +18,14 @@ use Rattle.anf.specs.Tables.{entry}
 use Rattle.anf.specs.NormalForm.{degree}
 use Rattle.anf.proofs.Tables.{entries-at, entries-intro}
 use Rattle.design.specs.Limits.{broken}
-use Rattle.design.specs.Design.{WellFormed}
 use Rattle.design.specs.Reading.{means, reading}
 use Rattle.design.proofs.Limits.{bounds, head-number}
 use Rattle.design.proofs.Theorems.{encode-reads}
 use Rattle.design.proofs.Producing.{success-file, success-rest, refusal-after}
-use Rattle.threshold.specs.Stages.{component, correct, nonComplete, Correct, NonComplete}
+use Rattle.threshold.specs.Stages.{component, Correct, NonComplete}
 use Rattle.threshold.specs.Chain.{chained}
-use Rattle.threshold.proofs.Tests.{correct↔, nonComplete↔}
 use Rattle.producer.specs.Direct.{directStage, directSharing, Shareable, Box}
-use Rattle.producer.specs.Producing.{produced, producedReason, outputAfter}
+use Rattle.producer.specs.Producing.{produced, producedReason, Succeeds, outputAfter}
 use Rattle.producer.specs.inside.Expanding.{TableTested}
 use Rattle.producer.proofs.Answering.{table-tested, reason-degree, reason-last}
 use Rattle.producer.proofs.Stage.{direct-correct, direct-non-complete}
@@ -102,54 +100,36 @@ module _ (m s : ℕ) (t : List ℕ) (room : ℕ) where
               let z : _≡_ {A = ℕ} 0 17 = sym (fault-none 0) ∙ sym past ∙ sym (reason-last m s t room (tested b) low) ∙ e in
               absurd (omega arith)
 
-  pub record Succeeds : Type 0 where
-    pub box : Box m s t
-    pub low : degree m (entry t) < s
-    pub fits : length (produced m s t) ≤ room
-
   -- 0 is answered exactly for a permutation within the limits, of degree below s, whose file fits
-  pub success-exactly : producedReason m s t room ≡ 0 ↔ Succeeds
+  pub success-exactly : producedReason m s t room ≡ 0 ↔ Succeeds m s t room
   success-exactly = (to, from)
     where
-      to : producedReason m s t room ≡ 0 → Succeeds
+      to : producedReason m s t room ≡ 0 → Succeeds m s t room
       to e =
           let p = past-degree 0 (λ k l h z. omega arith) e in
           record { box = p .0; low = p .1; fits = ltb-false _ _ (no-fault _ 17 [] (omega arith) (p .2) .0) }
 
-      from : Succeeds → producedReason m s t room ≡ 0
+      from : Succeeds m s t room → producedReason m s t room ≡ 0
       from a = reason-last m s t room (tested (a .box)) (a .low) ∙ fault-past _ 17 _ 0 (le-ltb _ _ (a .fits)) ∙ fault-none 0
 
 -- ---- what is produced
 
--- The produced file reads, and means one stage, with G equal to S, that is correct and non-complete: as propositions of the component functions, and as the
--- tests that a verdict makes. So with enough workspace no verdict but 0 and 14 is left.
+-- The produced file reads, its chain of tables is the box, and its one stage is correct and non-complete. So with enough workspace no verdict but 0 and 14
+-- is left.
 pub record ProducedSound (m s : ℕ) (t : List ℕ) : Type 0 where
-  pub formed : WellFormed (directSharing m s t)
   pub reads : reading (produced m s t) ≡ means (directSharing m s t)
-  pub one-stage : directSharing m s t .stages ≡ directStage m s t ∷ []
-  pub table : directStage m s t .table ≡ t
   pub chain : (x : ℕ) → chained (directSharing m s t .stages) x ≡ entry t x
   pub correctly : Correct m s (component m (directStage m s t .lists)) t
   pub non-completely : NonComplete m s (component m (directStage m s t .lists))
-  pub correct-test : correct m s (directStage m s t) ≡ true
-  pub nonComplete-test : nonComplete m s (directStage m s t) ≡ true
 
 pub produced-sound : (m s : ℕ) (t : List ℕ) → Box m s t → degree m (entry t) < s → ProducedSound m s t
 unfolding directSharing directStage chained
-produced-sound m s t b low =
-    let w = sharing-formed m s t (b .limits) (b .table) in
-    let c = direct-correct m s t (b .table) low in
-    record {
-      formed = w;
-      reads = unfold produced in encode-reads (directSharing m s t) w;
-      one-stage = refl;
-      table = refl;
-      chain = λ x. refl;
-      correctly = c;
-      non-completely = direct-non-complete m s t;
-      correct-test = correct↔ m s (directStage m s t) .1 c;
-      nonComplete-test = nonComplete↔ m s (directStage m s t) .1 (direct-non-complete m s t);
-    }
+produced-sound m s t b low = record {
+  reads = unfold produced in encode-reads (directSharing m s t) (sharing-formed m s t (b .limits) (b .table));
+  chain = λ x. refl;
+  correctly = direct-correct m s t (b .table) low;
+  non-completely = direct-non-complete m s t;
+}
 
 -- ---- the lent output
 

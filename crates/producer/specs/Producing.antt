@@ -1,5 +1,5 @@
 -- "Producing": the answer, and the output afterwards.
-use Prim.Native.Nat.{ℕ, _+_, _*_, _^_}
+use Prim.Native.Nat.{ℕ, _+_, _*_, _^_, _≤_, _<_}
 use mathlib.Core.Bool.{Bool, not}
 use mathlib.Core.List.{List, [], _∷_}
 use lib.ListN.{length}
@@ -13,7 +13,7 @@ use Rattle.anf.specs.NormalForm.{degree}
 use Rattle.design.specs.Limits.{broken, checked, headAnswer}
 use Rattle.design.specs.Encode.{encode}
 use Rattle.design.specs.Writing.{writingAnswer, writingAfter}
-use Rattle.producer.specs.Direct.{directSharing}
+use Rattle.producer.specs.Direct.{directSharing, Box}
 use Rattle.design.specs.declared.Produced.{Produced}
 
 -- the file that is written
@@ -40,6 +40,12 @@ producedFaults m s t room =
 -- the number of the refusal, or 0
 unfoldable pub producedReason : ℕ → ℕ → List ℕ → ℕ → ℕ
 producedReason m s t room = firstFault (producedFaults m s t room) 0
+
+-- as propositions, what 0 says: a permutation table within the limits, of degree below s, whose file fits
+pub record Succeeds (m s : ℕ) (t : List ℕ) (room : ℕ) : Type 0 where
+  pub box : Box m s t
+  pub low : degree m (entry t) < s
+  pub fits : length (produced m s t) ≤ room
 
 -- the answer: a refusal has length 0
 unfoldable pub producing : ℕ → ℕ → List ℕ → ℕ → Produced
