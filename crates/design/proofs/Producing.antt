@@ -12,8 +12,8 @@ use lib.Seq.{take-append-seam, drop-append-seam}
 use borrow.Author.Tests.{eq-eqb, ne-eqb}
 use Rattle.finite.proofs.Testing.{pick-true, pick-false}
 use Rattle.finite.specs.Tests.{pick}
-use Rattle.design.specs.Writing.{writingAnswer, writingAfter, noFile}
-use Rattle.design.specs.inside.Overwriting.{overwrite}
+use Rattle.design.specs.Writing.{writingAnswer, writingAfter}
+use Rattle.design.specs.inside.Overwriting.{overwrite, noFile}
 use Rattle.design.proofs.Overwriting.{overwrite-front}
 
 module _ (reason : ℕ) (file : List ℕ) where

@@ -1,4 +1,4 @@
--- Producing: the answer and the output afterwards, over the first refusal, or 0, and the file that is asked for.
+-- "Producing": the answer and the output afterwards, over the first refusal, or 0, and the file that is asked for.
 use Prim.Native.Nat.{ℕ}
 use mathlib.Core.List.{List, _++_}
 use lib.Dec.{eqb}
@@ -13,7 +13,3 @@ writingAnswer reason file = record { reason = reason; length = pick (eqb reason 
 -- a refusal leaves the output untouched, success the bytes past the file
 unfoldable pub writingAfter : ℕ → List ℕ → List ℕ → List ℕ
 writingAfter reason file out = pick (eqb reason 0) (file ++ drop (length file) out) out
-
--- the answer of a refusal
-abbrev pub noFile : ℕ → Produced
-noFile reason = record { reason = reason; length = 0 }

@@ -7,8 +7,7 @@ ghost use lib.ListN.{length, take};
 ghost use Rattle.design.specs.Limits.{greatestTerms};
 ghost use Rattle.design.specs.Bytes.{four};
 ghost use Rattle.design.specs.Encode.{recordHead, aRecord, listRecord, endRecord};
-ghost use Rattle.design.specs.Writing.{noFile};
-ghost use Rattle.design.specs.inside.Overwriting.{overwrite};
+ghost use Rattle.design.specs.inside.Overwriting.{overwrite, noFile};
 
 // The answer of a refusal.
 pub fn no_file(reason: usize) -> Produced

@@ -22,8 +22,7 @@ use Rattle.anf.specs.Transform.{transformAfter, transformed}
 use Rattle.anf.proofs.Passing.{passing-congr}
 use Rattle.anf.proofs.Answers.{input-answer, transformed-degree}
 use Rattle.design.specs.Limits.{greatestTerms, broken, checked, headAnswer}
-use Rattle.design.specs.Writing.{noFile}
-use Rattle.design.specs.inside.Overwriting.{overwrite}
+use Rattle.design.specs.inside.Overwriting.{overwrite, noFile}
 use Rattle.design.proofs.Limits.{bounds, head-number}
 use Rattle.design.proofs.Producing.{refusal-answer, refusal-after, success-answer, success-written}
 use Rattle.producer.specs.Direct.{isProduct, chosen, componentFor, stands, directList, directLists, directStage, directSharing}

@@ -16,8 +16,7 @@ use Rattle.anf.specs.inside.Words.{wordsDegree}
 use Rattle.anf.specs.Transform.{transformAfter}
 use Rattle.anf.specs.NormalForm.{degree}
 use Rattle.design.specs.Limits.{greatestTerms, broken, checked, headAnswer}
-use Rattle.design.specs.Writing.{noFile}
-use Rattle.design.specs.inside.Overwriting.{overwrite}
+use Rattle.design.specs.inside.Overwriting.{overwrite, noFile}
 use Rattle.design.specs.declared.Head.{Head}
 use Rattle.design.specs.declared.Checked.{Checked}
 use Rattle.design.specs.declared.Checked.the-variants.{Good, Beyond}

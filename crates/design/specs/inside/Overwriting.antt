@@ -1,8 +1,9 @@
--- Writing over a part of the output, and the records of lists.
+-- Writing over a part of the output, the records of lists, and the answer where no file is written.
 use Prim.Native.Nat.{ℕ, _+_}
 use mathlib.Core.List.{List, _++_, map}
 use lib.ListN.{length, take, drop}
 use Rattle.design.specs.Encode.{join, listRecord}
+use Rattle.design.specs.declared.Produced.{Produced}
 
 -- l with the bytes b written over it from a place on
 unfoldable pub overwrite : List ℕ → ℕ → List ℕ → List ℕ
@@ -11,3 +12,7 @@ overwrite l at b = take at l ++ b ++ drop (at + length b) l
 -- the records of these lists
 unfoldable pub listRecords : List (List ℕ) → List ℕ
 listRecords ls = join (map listRecord ls)
+
+-- the answer of a refusal
+abbrev pub noFile : ℕ → Produced
+noFile reason = record { reason = reason; length = 0 }
