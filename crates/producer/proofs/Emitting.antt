@@ -1,5 +1,5 @@
--- The emission of products, as the recursion over the variables left makes it: by cases of the next variable, and share by share.
-use mathlib.Core.Path.{_≡_, refl, sym, ap, ap₂, _∙_}
+-- The emission of products, as the recursion over the variables left in a term makes it: from the highest variable down, and share by share.
+use mathlib.Core.Path.{_≡_, refl, sym, ap, ap₂, _∙_, subst}
 use mathlib.Core.Bool.{true}
 use mathlib.Core.List.{List, [], _∷_, _++_}
 use Prim.Native.Nat.{ℕ, zero, suc, _+_, _-_, _*_, _^_, _≤_, _<_}
@@ -9,10 +9,10 @@ use native.Mathlib.Omega.{arith}
 use lib.Dec.{eqb}
 use lib.Bits.{bitOr, or-lt}
 use lib.Pow.{pow-lt, pow-mono}
-use lib.Count.{ones, ones-cat}
+use lib.Count.{ones}
 use lib.ListN.{length, getD, length-append}
 use borrow.Author.Tests.{eq-eqb, ne-eqb}
-use Rattle.finite.proofs.Elements.{has-low, has-top, has-beyond}
+use Rattle.finite.proofs.Elements.{has-low, has-top, has-beyond, ones-top}
 use Rattle.finite.specs.Tests.{pick}
 use Rattle.finite.specs.Sets.{has}
 use Rattle.finite.proofs.Testing.{below, pick-true, pick-false}
@@ -70,16 +70,9 @@ module _ (rule : List ℕ) (m s u c : ℕ) where
   abbrev pub through : ℕ → ℕ → ℕ → ℕ → List ℕ
   through v p J j = emitted rule m s u c v (bitOr p (2 ^ (m * j + v))) (bitOr J (2 ^ j))
 
-  emitted-step : (left p J : ℕ) → (left ≡ 0 → ⊥)
-      → emitted rule m s u c left p J ≡ pick (has u (left - 1)) (joined s (through (left - 1) p J)) (emitted rule m s u c (left - 1) p J)
+  emitted-variable : (v p J : ℕ) → has u v ≡ true → emitted rule m s u c (suc v) p J ≡ joined s (through v p J)
   unfolding emitted
-  emitted-step zero p J n = absurd (n refl)
-  emitted-step (suc v) p J n =
-      let e : suc v - 1 ≡ v = omega arith in
-      sym (ap (λ (k : ℕ). pick (has u k) (joined s (through k p J)) (emitted rule m s u c k p J)) e)
-
-  pub emitted-each : (left p J : ℕ) → (left ≡ 0 → ⊥) → has u (left - 1) ≡ true → emitted rule m s u c left p J ≡ joined s (through (left - 1) p J)
-  emitted-each left p J n e = emitted-step left p J n ∙ pick-true (has u (left - 1)) _ _ e
+  emitted-variable v p J e = pick-true (has u v) _ _ e
 
   -- ---- the variables of a set from the highest down
 
@@ -104,10 +97,6 @@ emitted-alike rule m s u r c (suc k) p J h =
     (joined-congr s _ _ (λ j. emitted-alike rule m s u r c k (bitOr p (2 ^ (m * j + k))) (bitOr J (2 ^ j)) (λ w l. h w (omega arith))))
     (emitted-alike rule m s u r c k p J (λ w l. h w (omega arith))))
 
-one-one : ones 1 ≡ 1
-unfolding ones
-one-one = refl
-
 module _ (rule : List ℕ) (m s c : ℕ) where
   -- what share j of variable v gives, where the set r of variables is left
   abbrev pub onward : ℕ → ℕ → ℕ → ℕ → ℕ → List ℕ
@@ -128,13 +117,13 @@ module _ (rule : List ℕ) (m s c : ℕ) where
     whole = omega (arith, t .least)
 
     pub fewer : ones (u - 2 ^ v) < ones u
-    fewer = omega (arith, ap ones whole ∙ ones-cat v 1 (u - 2 ^ v) left-lt, one-one)
+    fewer = let e : u ≡ 2 ^ v + (u - 2 ^ v) = omega (arith, t .least) in omega (arith, ap ones e ∙ ones-top v (u - 2 ^ v) left-lt)
 
-    pub emitted-each-set : (p J : ℕ) → emitted rule m s u c m p J ≡ joined s (onward (u - 2 ^ v) v p J)
-    emitted-each-set p J =
-        emitted-high rule m s u c (v + 1) m p J (t .most) (omega (arith, variable-lt))
-        ∙ emitted-each rule m s u c (v + 1) p J (λ z. omega arith) (ap (has u) (omega arith) ∙ ap (λ (x : ℕ). has x v) whole ∙ has-top v (u - 2 ^ v) left-lt)
-        ∙ joined-congr s _ _ (λ j. ap (λ (k : ℕ). emitted rule m s u c k (bitOr p (2 ^ (m * j + k))) (bitOr J (2 ^ j))) (omega arith) ∙ rest j)
+    pub emitted-each : (p J : ℕ) → emitted rule m s u c m p J ≡ joined s (onward (u - 2 ^ v) v p J)
+    emitted-each p J =
+        emitted-high rule m s u c (suc v) m p J (subst (λ (k : ℕ). u < 2 ^ k) (add-one v) (t .most)) variable-lt
+        ∙ emitted-variable rule m s u c v p J (ap (λ (x : ℕ). has x v) whole ∙ has-top v (u - 2 ^ v) left-lt)
+        ∙ joined-congr s _ _ rest
       where
         rest : (j : ℕ) → emitted rule m s u c v (bitOr p (2 ^ (m * j + v))) (bitOr J (2 ^ j)) ≡ onward (u - 2 ^ v) v p J j
         rest j =
@@ -154,7 +143,7 @@ module _ (rule : List ℕ) (m s c : ℕ) where
       room = rw (ce, qe, Ke) (omega (
         arith,
         joined-within s j (onward (u - 2 ^ v) v p J) i,
-        ap length (emitted-each-set p J),
+        ap length (emitted-each p J),
         x .room,
       ));
     }

@@ -24,7 +24,7 @@ use Rattle.producer.specs.Direct.{directList}
 use Rattle.producer.specs.inside.Expanding.{joined, ending, emitted, inserted, insertedAll, Grown, brought, Highest, Expands, Gathers}
 use Rattle.producer.proofs.Inserting.{going, going-on, going-end}
 use Rattle.producer.proofs.Emitting.{inserted-one, inserted-none, ending-here, ending-other, emitted-end, turn-count, turn-list}
-use Rattle.producer.proofs.Emitting.{onward, variable-lt, fewer, emitted-each-set, expands-share, bit-place}
+use Rattle.producer.proofs.Emitting.{onward, variable-lt, fewer, emitted-each, expands-share, bit-place}
 use Rattle.producer.proofs.Gathering.{term-asks, all-terms, few-terms}
 
 -- ---- `settle`: x is the term at i, b whether t stands before it
@@ -222,7 +222,7 @@ module _ (rule : List ℕ) (m s u c p J size n : ℕ) (x : Expands rule m s u J 
     unfolding sharing
     shares-all j a b l l′ k g =
         let q : j ≡ s = omega arith in
-        grown-as _ _ l n l′ k (ap₂ (λ (i y : ℕ). joined i (onward rule m s c y v p J)) q re ∙ sym (emitted-each-set rule m s c u v t (x .within) p J)) g
+        grown-as _ _ l n l′ k (ap₂ (λ (i y : ℕ). joined i (onward rule m s c y v p J)) q re ∙ sym (emitted-each rule m s c u v t (x .within) p J)) g
 
 pub shares-more : (rule : List ℕ) (m s r c v p J j q K : ℕ) (l₀ l l′ : List ℕ) (n count k : ℕ) → Grown (joined j (sharing rule m s r c v p J)) l₀ n l count
     → Grown (emitted rule m s r c m q K) l count l′ k → q ≡ bitOr p (2 ^ (m * j + v)) → K ≡ bitOr J (2 ^ j) → Grown (joined (j + 1) (sharing rule m s r c v p J)) l₀ n l′ k

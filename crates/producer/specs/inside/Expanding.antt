@@ -26,7 +26,7 @@ joined (suc n) f = joined n f ++ f n
 unfoldable pub ending : List ℕ → ℕ → ℕ → ℕ → List ℕ
 ending rule c p J = pick (eqb (getD rule J 0) c) (p ∷ []) []
 
--- the products of the variables of u below `left`, on top of p, for which the shares J are chosen so far, that go to component c
+-- the products of the variables of u below a number, on top of p, for which the shares J are chosen so far, that go to component c
 unfoldable pub emitted : List ℕ → ℕ → ℕ → ℕ → ℕ → ℕ → ℕ → ℕ → List ℕ
 emitted rule m s u c zero p J = ending rule c p J
 emitted rule m s u c (suc v) p J =
