@@ -198,8 +198,8 @@ module _ (rule : List ℕ) (m s u J size n : ℕ) (ts : List ℕ) (x : Expands r
     fewer-left r k e z = rw (e, ← z) (fewer rule m s 0 u v t (x .within))
 
 -- what share j of variable v gives, where the set r is left
-unfoldable pub sharing : List ℕ → ℕ → ℕ → ℕ → ℕ → ℕ → ℕ → ℕ → ℕ → List ℕ
-sharing rule m s r c v p J = onward rule m s c r v p J
+unfoldable pub eachShare : List ℕ → ℕ → ℕ → ℕ → ℕ → ℕ → ℕ → ℕ → ℕ → List ℕ
+eachShare rule m s r c v p J = onward rule m s c r v p J
 
 module _ (rule : List ℕ) (m s u c p J size n : ℕ) (x : Expands rule m s u J size n (emitted rule m s u c m p J)) where
   module _ (z : u ≡ 0) where
@@ -212,20 +212,20 @@ module _ (rule : List ℕ) (m s u c p J size n : ℕ) (x : Expands rule m s u J 
   -- r is what is left of u without its highest variable v
   module _ (v : ℕ) (t : Highest u v) (r : ℕ) (re : r ≡ u - 2 ^ v) where
     -- q and K are p and J with share j too
-    pub share-asks : (l₀ l : List ℕ) (j count q K size′ : ℕ) → j < s → Grown (joined j (sharing rule m s r c v p J)) l₀ n l count
+    pub share-asks : (l₀ l : List ℕ) (j count q K size′ : ℕ) → j < s → Grown (joined j (eachShare rule m s r c v p J)) l₀ n l count
         → q ≡ bitOr p (2 ^ (m * j + v)) → K ≡ bitOr J (2 ^ j) → size′ ≡ size → Expands rule m s r K size′ count (emitted rule m s r c m q K)
-    unfolding sharing
+    unfolding eachShare
     share-asks l₀ l j count q K size′ i g qe Ke se =
         rw (se, re) (expands-share rule m s c u v t (x .within) p J size n x j count q K i (rw re at (g .count)) qe Ke)
 
-    pub shares-all : (j : ℕ) → j ≤ s → s ≤ j → (l l′ : List ℕ) (k : ℕ) → Grown (joined j (sharing rule m s r c v p J)) l n l′ k → Grown (emitted rule m s u c m p J) l n l′ k
-    unfolding sharing
+    pub shares-all : (j : ℕ) → j ≤ s → s ≤ j → (l l′ : List ℕ) (k : ℕ) → Grown (joined j (eachShare rule m s r c v p J)) l n l′ k → Grown (emitted rule m s u c m p J) l n l′ k
+    unfolding eachShare
     shares-all j a b l l′ k g =
         let q : j ≡ s = omega arith in
         grown-as _ _ l n l′ k (ap₂ (λ (i y : ℕ). joined i (onward rule m s c y v p J)) q re ∙ sym (emitted-each rule m s c u v t (x .within) p J)) g
 
-pub shares-more : (rule : List ℕ) (m s r c v p J j q K : ℕ) (l₀ l l′ : List ℕ) (n count k : ℕ) → Grown (joined j (sharing rule m s r c v p J)) l₀ n l count
-    → Grown (emitted rule m s r c m q K) l count l′ k → q ≡ bitOr p (2 ^ (m * j + v)) → K ≡ bitOr J (2 ^ j) → Grown (joined (j + 1) (sharing rule m s r c v p J)) l₀ n l′ k
-unfolding sharing
+pub shares-more : (rule : List ℕ) (m s r c v p J j q K : ℕ) (l₀ l l′ : List ℕ) (n count k : ℕ) → Grown (joined j (eachShare rule m s r c v p J)) l₀ n l count
+    → Grown (emitted rule m s r c m q K) l count l′ k → q ≡ bitOr p (2 ^ (m * j + v)) → K ≡ bitOr J (2 ^ j) → Grown (joined (j + 1) (eachShare rule m s r c v p J)) l₀ n l′ k
+unfolding eachShare
 shares-more rule m s r c v p J j q K l₀ l l′ n count k g f qe Ke =
-    grown-more (sharing rule m s r c v p J) j l₀ l l′ n count k g (grown-as _ _ l count l′ k (ap₂ (emitted rule m s r c m) qe Ke) f)
+    grown-more (eachShare rule m s r c v p J) j l₀ l l′ n count k g (grown-as _ _ l count l′ k (ap₂ (emitted rule m s r c m) qe Ke) f)

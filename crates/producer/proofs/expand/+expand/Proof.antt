@@ -8,7 +8,7 @@ use borrow.Fn.Kinds.{In}
 use borrow.Fn.PlainCycle.{Measures, is, falls, and}
 use Rattle.producer.specs.inside.Expanding.{joined, Grown}
 use Rattle.producer.proofs.Stepping.{chosen-low, room-end, ends, variable-low, fewer-left}
-use Rattle.producer.proofs.Stepping.{sharing, grown-none, row-fits, place-fits, place-low, shares-low, share-next, share-asks, shares-more, shares-all}
+use Rattle.producer.proofs.Stepping.{eachShare, grown-none, row-fits, place-fits, place-low, shares-low, share-next, share-asks, shares-more, shares-all}
 use Rattle.producer.proofs.expand.expand.Reads as expand
 use Rattle.producer.proofs.expand.expand.Kinds as expand-kinds
 use Rattle.producer.proofs.expand.emit.Reads as emit-reads
@@ -30,7 +30,7 @@ expand-below t = and 2 expand-kinds.ps (falls 2 expand-kinds.ps _<_ μ-expand t)
 
 abbrev expand-Inv-loop : expand-lts.InvT-loop
 expand-Inv-loop rule m s u to p chosen list₀ n v rest count₀ j₀ list count j =
-    (j ≤ s) × (length list ≡ length list₀) × Grown (joined j (sharing rule m s rest to v p chosen)) list₀ n list count
+    (j ≤ s) × (length list ≡ length list₀) × Grown (joined j (eachShare rule m s rest to v p chosen)) list₀ n list count
 
 abbrev expand-μ-loop : expand-lts.MeasureT-loop
 expand-μ-loop rule m s u to p chosen list₀ n v rest count₀ j₀ list count j = s - j
