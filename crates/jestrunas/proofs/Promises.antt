@@ -21,6 +21,7 @@ use Rattle.anf.proofs.Terms.{unique-terms, names-exactly}
 use Rattle.anf.proofs.Degree.{shares-bound}
 use Rattle.anf.proofs.Answers.{transform-back}
 use Rattle.anf.proofs.Bench as anf-bench
+use Rattle.design.specs.Limits.{checked, headAnswer}
 use Rattle.design.specs.Bytes.{Bytes}
 use Rattle.design.specs.Design.{Stage, Design, StageFits, WellFormed, SameMeaning}
 use Rattle.design.specs.Encode.{encode}
@@ -181,6 +182,7 @@ output-enough = producer-room.room-enough
 
 pub record Bench : Type 0 where
   pub passages : bench-anf.AllPass bench-anf.rows
+  pub heads : map (λ r. headAnswer (checked (r .m) (r .s) 1)) bench-design.headRows ≡ map (λ r. r .answer) bench-design.headRows
   pub readings : map (λ r. reading (r .file)) bench-design.rows ≡ map (λ r. r .answer) bench-design.rows
   pub verdicts : map (λ r. verdict (r .file) (r .workspace)) bench-checker.rows ≡ map (λ r. r .answer) bench-checker.rows
   pub runs : map (λ r. running (r .file) (r .shares)) bench-checker.runs ≡ map (λ r. r .answer) bench-checker.runs
@@ -190,6 +192,7 @@ pub record Bench : Type 0 where
 pub bench : Bench
 bench = record {
   passages = anf-bench.bench;
+  heads = design-bench.bench-heads;
   readings = design-bench.bench;
   verdicts = checker-bench.bench-verdicts;
   runs = checker-bench.bench-runs;
