@@ -3,15 +3,16 @@
 -- Assumes nothing.
 use Prim.Native.Nat.{ℕ, _+_, _*_, _-_, _/_, _%_, _^_, _≤_, _<_}
 use mathlib.Core.Path.{_≡_, refl, sym, ap, _∙_}
-use mathlib.Core.List.{List}
+use mathlib.Core.List.{List, _∷_, []}
 use mathlib.Core.Bool.{Bool, true, false, not, _||_}
 use native.Mathlib.Omega.{arith}
 use borrow.Author.Tests.{lt-ltb, le-ltb, eq-eqb, ne-eqb, not-true, not-false}
 use lib.ListN.{length, getD}
-use lib.Dec.{leb, eqb}
+use lib.Dec.{leb, eqb, ltb}
 use Rattle.finite.specs.Tests.{all}
 use Rattle.finite.specs.Faults.{firstFault}
 use Rattle.finite.proofs.Testing.{all-fails, all-more}
+use Rattle.finite.proofs.Faults.{fault-here, fault-past, fault-none}
 use Rattle.anf.specs.Terms.{before}
 use Rattle.design.specs.Bytes.{u16At, u32At}
 use Rattle.design.specs.Reading.{kindDue, sizeDue, lengthDue, entryFits, previous, termFits, faultAt}
@@ -38,29 +39,30 @@ module _ (kind size n : ℕ) where
 
 module _ (f : List ℕ) (at kind size : ℕ) where
   pub head-short : length f - at < 4 → 1 ≡ frameFault f at kind size
-  unfolding frameFault firstFault
-  head-short h = simp (lt-ltb _ _ h)
+  unfolding frameFault
+  head-short h = sym (fault-here _ 1 _ 0 (lt-ltb _ _ h))
 
   module _ (a : 4 ≤ length f - at) (k : ℕ) (ek : k ≡ u16At f (at + 2)) where
     pub other-kind : (k ≡ kind → ⊥) → 2 ≡ frameFault f at kind size
-    unfolding frameFault firstFault
-    other-kind h = simp (le-ltb _ _ a, ne-eqb _ _ (λ e. h (ek ∙ e)))
+    unfolding frameFault
+    other-kind h = sym (fault-past _ 1 _ 0 (le-ltb _ _ a) ∙ fault-here _ 2 _ 0 (ap not (ne-eqb _ _ (λ e. h (ek ∙ e)))))
 
     module _ (q : k ≡ kind) (n : ℕ) (en : n ≡ u16At f at) (b : Bool) (eb : b ≡ lengthDue kind size n) where
-      due : b ≡ true → lengthDue kind size (u16At f at) ≡ true
-      due h = sym (ap (lengthDue kind size) en) ∙ sym eb ∙ h
+      past-kind : frameFault f at kind size ≡ firstFault ((not (lengthDue kind size (u16At f at)), 3) ∷ (ltb (length f - at - 4) (u16At f at), 1) ∷ []) 0
+      unfolding frameFault
+      past-kind = fault-past _ 1 _ 0 (le-ltb _ _ a) ∙ fault-past _ 2 _ 0 (ap not (eq-eqb _ _ (sym ek ∙ q)))
+
+      due : lengthDue kind size (u16At f at) ≡ b
+      due = sym (ap (lengthDue kind size) en) ∙ sym eb
 
       pub body-short : b ≡ true → length f - at - 4 < n → 1 ≡ frameFault f at kind size
-      unfolding frameFault firstFault
-      body-short t h = simp (le-ltb _ _ a, eq-eqb _ _ (sym ek ∙ q), due t, lt-ltb _ _ (rw en at h))
+      body-short t h = sym (past-kind ∙ fault-past _ 3 _ 0 (ap not (due ∙ t)) ∙ fault-here _ 1 _ 0 (lt-ltb _ _ (rw en at h)))
 
       pub frame-good : b ≡ true → n ≤ length f - at - 4 → 0 ≡ frameFault f at kind size
-      unfolding frameFault firstFault
-      frame-good t h = simp (le-ltb _ _ a, eq-eqb _ _ (sym ek ∙ q), due t, le-ltb _ _ (rw en at h))
+      frame-good t h = sym (past-kind ∙ fault-past _ 3 _ 0 (ap not (due ∙ t)) ∙ fault-past _ 1 _ 0 (le-ltb _ _ (rw en at h)) ∙ fault-none 0)
 
       pub wrong-length : b ≡ false → 3 ≡ frameFault f at kind size
-      unfolding frameFault firstFault
-      wrong-length h = simp (le-ltb _ _ a, eq-eqb _ _ (sym ek ∙ q), sym (ap (lengthDue kind size) en) ∙ sym eb ∙ h)
+      wrong-length h = sym (past-kind ∙ fault-here _ 3 _ 0 (ap not (due ∙ h)))
 
 -- ---- `entries_fit`: b is entry x
 
