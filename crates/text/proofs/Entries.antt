@@ -11,34 +11,34 @@ use lib.ListN.{length, getD, take, drop, set, length-set, length-drop}
 use lib.Seq.{drop-cons, take-suc, take-length, length-take-le, append-snoc, set-at}
 use borrow.Author.Tests.{lt-ltb, le-ltb, le-leb, lt-leb, not-true, not-false}
 use Rattle.io.specs.Counts.{Counts}
-use Rattle.text.specs.Lines.{digitOf, entryAt, pastEntry, isEntry, entriesFrom, pastEntries, countAt, entriesOver}
+use Rattle.text.specs.Lines.{digitOf, entryRead, pastEntry, isEntry, entriesFrom, pastEntries, countAt, entriesOver}
 use Rattle.text.specs.declared.Number.{Number}
 use Rattle.text.proofs.Digits.{as-number}
 
 -- ---- `entry_at`
 
 module _ (text : List ℕ) (at : ℕ) (wide : Bool) (h : ℕ) (eh : h ≡ digitOf (getD text at 0)) where
-  pub entry-no-high : 16 ≤ h → 256 ≡ entryAt text at wide
-  unfolding entryAt
+  pub entry-no-high : 16 ≤ h → 256 ≡ entryRead text at wide
+  unfolding entryRead
   entry-no-high n = rw (sym eh) (rw (le-leb 16 h n) refl)
 
   module _ (a : h < 16) where
-    pub entry-narrow : not wide ≡ true → h ≡ entryAt text at wide
-    unfolding entryAt
+    pub entry-narrow : not wide ≡ true → h ≡ entryRead text at wide
+    unfolding entryRead
     entry-narrow w = rw (sym eh) (rw (lt-leb 16 h a) (rw w refl))
 
     module _ (w : not wide ≡ false) where
-      pub entry-cut : length text ≤ at + 1 → 256 ≡ entryAt text at wide
-      unfolding entryAt
+      pub entry-cut : length text ≤ at + 1 → 256 ≡ entryRead text at wide
+      unfolding entryRead
       entry-cut n = rw (sym eh) (rw (lt-leb 16 h a) (rw w (rw (le-leb (length text) (at + 1) n) refl)))
 
       module _ (b : at + 1 < length text) (l : ℕ) (el : l ≡ digitOf (getD text (at + 1) 0)) where
-        pub entry-no-low : 16 ≤ l → 256 ≡ entryAt text at wide
-        unfolding entryAt
+        pub entry-no-low : 16 ≤ l → 256 ≡ entryRead text at wide
+        unfolding entryRead
         entry-no-low n = rw (sym eh) (rw (sym el) (rw (lt-leb 16 h a) (rw w (rw (lt-leb (length text) (at + 1) b) (rw (le-leb 16 l n) refl)))))
 
-        pub entry-both : l < 16 → 16 * h + l ≡ entryAt text at wide
-        unfolding entryAt
+        pub entry-both : l < 16 → 16 * h + l ≡ entryRead text at wide
+        unfolding entryRead
         entry-both n = rw (sym eh) (rw (sym el) (rw (lt-leb 16 h a) (rw w (rw (lt-leb (length text) (at + 1) b) (rw (lt-leb 16 l n) refl)))))
 
 -- ---- `stepped`
@@ -115,7 +115,7 @@ module _ (text : List ℕ) (wide : Bool) (i : ℕ) where
   unfolding isEntry
   no-text h = rw (le-ltb i (length text) h) refl
 
-  module _ (e : ℕ) (ee : e ≡ entryAt text i wide) (h : i < length text) where
+  module _ (e : ℕ) (ee : e ≡ entryRead text i wide) (h : i < length text) where
     no-entry : 256 ≤ e → isEntry text i wide ≡ false
     unfolding isEntry
     no-entry n = rw (lt-ltb i (length text) h) (rw (sym ee) (rw (le-ltb e 256 n) refl))
@@ -165,7 +165,7 @@ module _ (text : List ℕ) (wide : Bool) (at : ℕ) (out₀ out : List ℕ) (i n
   pub taken-end : length text ≤ i → AllTaken text wide at out₀ out i n
   taken-end h = let z = no-text text wide i h in all (none-left text wide i z (length out₀ - n)) (none-past text wide i z (length out₀ - n))
 
-  module _ (h : i < length text) (e : ℕ) (ee : e ≡ entryAt text i wide) where
+  module _ (h : i < length text) (e : ℕ) (ee : e ≡ entryRead text i wide) where
     pub taken-none : 256 ≤ e → AllTaken text wide at out₀ out i n
     taken-none s =
         let z = no-entry text wide i e ee h s in all (none-left text wide i z (length out₀ - n)) (none-past text wide i z (length out₀ - n))

@@ -10,19 +10,19 @@ use lib.Seq.{drop-cons}
 use mathlib.Core.Bool.{true}
 use lib.Dec.{eqb}
 use borrow.Author.Tests.{lt-ltb, le-ltb, eq-eqb, ne-eqb}
-use Rattle.text.specs.Lines.{leading, upTo, pastSpaces, placeWith, pastLine, endsAt}
+use Rattle.text.specs.Lines.{leadingBytes, upTo, pastSpaces, placeWith, pastLine, endsAt}
 
 module _ (text : List ℕ) (i b : ℕ) where
-  leading-one : i < length text → getD text i 0 ≡ b → leading b (drop i text) ≡ suc (leading b (drop (suc i) text))
-  unfolding leading
+  leading-one : i < length text → getD text i 0 ≡ b → leadingBytes b (drop i text) ≡ suc (leadingBytes b (drop (suc i) text))
+  unfolding leadingBytes
   leading-one h e = rw (drop-cons text i 0 h) (rw (eq-eqb (getD text i 0) b e) refl)
 
-  leading-none : i < length text → (getD text i 0 ≡ b → ⊥) → leading b (drop i text) ≡ 0
-  unfolding leading
+  leading-none : i < length text → (getD text i 0 ≡ b → ⊥) → leadingBytes b (drop i text) ≡ 0
+  unfolding leadingBytes
   leading-none h n = rw (drop-cons text i 0 h) (rw (ne-eqb (getD text i 0) b n) refl)
 
-  leading-end : length text ≤ i → leading b (drop i text) ≡ 0
-  unfolding leading
+  leading-end : length text ≤ i → leadingBytes b (drop i text) ≡ 0
+  unfolding leadingBytes
   leading-end h = rw (drop-of-length-le text h) refl
 
   upTo-one : i < length text → (getD text i 0 ≡ b → ⊥) → upTo b (drop i text) ≡ suc (upTo b (drop (suc i) text))
@@ -55,7 +55,7 @@ module _ (text : List ℕ) (at i : ℕ) (p : Spaces text at i) where
   pub spaces-more : i < length text → getD text i 0 ≡ 32 → Spaces text at (i + 1)
   unfolding pastSpaces
   spaces-more h e =
-      let one : leading 32 (drop i text) ≡ suc (leading 32 (drop (i + 1) text)) = rw (add-one i) (leading-one text i 32 h e) in
+      let one : leadingBytes 32 (drop i text) ≡ suc (leadingBytes 32 (drop (i + 1) text)) = rw (add-one i) (leading-one text i 32 h e) in
       record { from = omega (arith, p .from); within = omega arith; same = omega (arith, one, p .same) }
 
   pub spaces-end : length text ≤ i → i ≡ pastSpaces text at

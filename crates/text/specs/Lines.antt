@@ -12,9 +12,9 @@ use Rattle.text.specs.declared.Request.{Request}
 -- ---- Places
 
 -- how many bytes a text begins with that are b
-unfoldable pub leading : ℕ → List ℕ → ℕ
-leading b [] = 0
-leading b (x ∷ l) = pick (eqb x b) (suc (leading b l)) 0
+unfoldable pub leadingBytes : ℕ → List ℕ → ℕ
+leadingBytes b [] = 0
+leadingBytes b (x ∷ l) = pick (eqb x b) (suc (leadingBytes b l)) 0
 
 -- how many bytes it has before the first b
 unfoldable pub upTo : ℕ → List ℕ → ℕ
@@ -23,7 +23,7 @@ upTo b (x ∷ l) = pick (eqb x b) 0 (suc (upTo b l))
 
 -- the first place from `at` on that is no space
 unfoldable pub pastSpaces : List ℕ → ℕ → ℕ
-pastSpaces text at = at + leading 32 (drop at text)
+pastSpaces text at = at + leadingBytes 32 (drop at text)
 
 -- the first place from `at` on that has b, or the text's length
 unfoldable pub placeWith : List ℕ → ℕ → ℕ → ℕ
@@ -67,8 +67,8 @@ numberAt text at = record { value = numberFrom 0 (drop at text); next = at + dec
 -- ---- Entries of a table or of a file, of one digit, or of two where they are wide
 
 -- the entry at a place, or 256
-unfoldable pub entryAt : List ℕ → ℕ → Bool → ℕ
-entryAt text at wide =
+unfoldable pub entryRead : List ℕ → ℕ → Bool → ℕ
+entryRead text at wide =
     pick (leb 16 (digitOf (getD text at 0))) 256
     (pick (not wide) (digitOf (getD text at 0))
     (pick (leb (length text) (at + 1)) 256
@@ -81,12 +81,12 @@ pastEntry text at wide = pick (wide && leb (at + 2) (length text)) (at + 2) (at 
 
 -- whether there is one
 unfoldable pub isEntry : List ℕ → ℕ → Bool → Bool
-isEntry text at wide = ltb at (length text) && ltb (entryAt text at wide) 256
+isEntry text at wide = ltb at (length text) && ltb (entryRead text at wide) 256
 
 -- the entries from a place on, up to what is none, at most n
 unfoldable pub entriesFrom : List ℕ → Bool → ℕ → ℕ → List ℕ
 entriesFrom text wide zero at = []
-entriesFrom text wide (suc n) at = pick (isEntry text at wide) (entryAt text at wide ∷ entriesFrom text wide n (pastEntry text at wide)) []
+entriesFrom text wide (suc n) at = pick (isEntry text at wide) (entryRead text at wide ∷ entriesFrom text wide n (pastEntry text at wide)) []
 
 -- the place after them
 unfoldable pub pastEntries : List ℕ → Bool → ℕ → ℕ → ℕ

@@ -17,7 +17,7 @@ ghost use Rattle.text.specs.Lines.{
   digitOf,
   withDigit,
   numberAt,
-  entryAt,
+  entryRead,
   pastEntry,
   countAt,
   entriesOver,
@@ -144,7 +144,7 @@ fn capped(value: usize, d: usize) -> usize
 // One entry, of one digit or of two, or 256 where it is no entry.
 fn entry_at(text: &[u8], at: usize, wide: bool) -> usize
     requires { ⌜ at < length (now text) ⌝ }
-    ensures { λ r. ⌜ (r ≡ entryAt (now (text .entry)) at wide) × (r ≤ 256) ⌝ }
+    ensures { λ r. ⌜ (r ≡ entryRead (now (text .entry)) at wide) × (r ≤ 256) ⌝ }
 {
     let high = digit(text[at]);
     if 16 <= high {
