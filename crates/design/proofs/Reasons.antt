@@ -2,8 +2,8 @@
 -- Assumes nothing.
 use Prim.Native.Nat.{ℕ, zero, suc, _+_, _*_, _-_, _/_, _%_, _^_, _≤_, _<_}
 use mathlib.Core.Path.{_≡_, refl, sym, ap, _∙_, subst}
-use mathlib.Core.List.{List}
-use mathlib.Core.Bool.{Bool, true, false, _||_, true≢false}
+use mathlib.Core.List.{List, _∷_}
+use mathlib.Core.Bool.{Bool, true, false, _||_, true≢false, not}
 use mathlib.Core.Logic.{⊎-elim}
 use native.Mathlib.Omega.{arith}
 use borrow.Author.Tests.{eqb-false, eqb-true, ltb-true, ltb-false, eq-eqb, le-ltb, lt-ltb, ne-eqb, not-false, not-true, le-leb}
@@ -12,13 +12,14 @@ use lib.Dec.{ltb, eqb, lit<}
 use native.Mathlib.Nat.{not-suc-le-zero}
 use native.Mathlib.Numerals.{add-one}
 use Rattle.finite.specs.Tests.{pick, all}
+use Rattle.finite.specs.Faults.{firstFault}
 use Rattle.finite.proofs.Testing.{all-at, all-not, clash, true-or-false, below, and-intro, or-right, and-right, and-left}
 use Rattle.finite.proofs.Faults.{fault-cases}
 use Rattle.anf.specs.Terms.{before}
 use Rattle.design.specs.Limits.{greatestTerms, broken}
 use Rattle.design.specs.Bytes.{u16At}
-use Rattle.design.specs.Reading.{refused, means, lastOf, headOf, kindDue, sizeDue, lengthDue, entryFits, termFits, previous, faultAt, meaning, place, walk, reading}
-use Rattle.design.specs.Refused.{WithinLimits, LengthFits, TermFits, RecordStands, RecordFits, FitBefore, Reached, termAt}
+use Rattle.design.specs.Reading.{refused, means, lastOf, headOf, kindDue, sizeDue, lengthDue, entryFits, termFits, previous, faultAt, meaning, place, walk, reading, bodyFaults}
+use Rattle.design.specs.Refused.{WithinLimits, LengthFits, TermFits, RecordStands, RecordFits, FitBefore, Reached, termAt, kindAt}
 use Rattle.design.specs.Refused.{RefusedFor, head-cut, kind-wrong, length-wrong, body-cut, limit-broken, entry-high, term-wrong, bytes-follow}
 use Rattle.design.specs.declared.Head.{Head}
 use Rattle.design.proofs.Limits.{bounds}
@@ -150,8 +151,9 @@ module _ (f : List ℕ) (i : ℕ) where
             term-fits f i j (all-at _ _ (pick-passed _ 6 (lit< tt) (sym (body-3 f (headOf f) kind (start + 4) (u16At f start) q) ∙ z)) j l);
       }
 
-  -- with one
-  module _ (r : ℕ) (n : r ≡ 0 → ⊥) (before : Reached f i) where
+  -- with a fault r, where no record before it has one
+  module _ (r : ℕ) (n : r ≡ 0 → ⊥) (reached : Reached f i) where
+    -- in its body: by its kind
     body-refused : RecordStands f i → bodyFault f (headOf f) kind (start + 4) (u16At f start) ≡ r → RefusedFor f r start
     body-refused w e = go kind refl (kind-cases (headOf f) i)
       where
@@ -168,7 +170,7 @@ module _ (f : List ℕ) (i : ℕ) where
             (λ b. absurd (n (sym e ∙ body-2 f (headOf f) kind (start + 4) (u16At f start) q ∙ ap (λ (x : Bool). pick x 0 5) b)))
             (λ b. let c : 5 ≡ r = sym (ap (λ (x : Bool). pick x 0 5) b) ∙ sym (body-2 f (headOf f) kind (start + 4) (u16At f start) q) ∙ e in
             let x = all-not _ _ b in
-            rw (← c) (entry-high i (x .0) before w q (omega (arith, w .size .of-table q, x .1))
+            rw (← c) (entry-high i (x .0) reached w q (omega (arith, w .size .of-table q, x .1))
             (λ y l. entry-below f (start + 4) (2 ^ headOf f .m) y (all-at _ _ (x .2) y l)) (entry-not f (start + 4) (2 ^ headOf f .m) (x .0) (x .3))))
             (true-or-false (all (u16At f start) (entryFits f (start + 4) (2 ^ headOf f .m))))
         go k q is-list =
@@ -176,30 +178,58 @@ module _ (f : List ℕ) (i : ℕ) where
             (λ b. absurd (n (sym e ∙ body-3 f (headOf f) kind (start + 4) (u16At f start) q ∙ ap (λ (x : Bool). pick x 0 6) b)))
             (λ b. let c : 6 ≡ r = sym (ap (λ (x : Bool). pick x 0 6) b) ∙ sym (body-3 f (headOf f) kind (start + 4) (u16At f start) q) ∙ e in
             let x = all-not _ _ b in
-            rw (← c) (term-wrong i (x .0) before w q (x .1) (λ l u. term-fits f i l (all-at _ _ (x .2) l u)) (term-not f i (x .0) (x .3))))
+            rw (← c) (term-wrong i (x .0) reached w q (x .1) (λ l u. term-fits f i l (all-at _ _ (x .2) l u)) (term-not f i (x .0) (x .3))))
             (true-or-false (all (u16At f start / 4) (fits f i)))
         go k q is-end =
             absurd (n (sym e ∙ body-4 f (headOf f) kind (start + 4) (u16At f start) (λ z. omega (arith, q, z)) (λ z. omega (arith, q, z)) (λ z. omega (arith, q, z))))
 
+    -- the tests that are left, from the last of the frame back to the first
+    abbrev lastFaults : List (Bool × ℕ)
+    lastFaults = (ltb (length f - start - 4) (u16At f start), 1) ∷ bodyFaults f (headOf f) kind (start + 4) (u16At f start)
+
+    abbrev lengthFaults : List (Bool × ℕ)
+    lengthFaults = (not (lengthDue kind (sizeDue (headOf f) kind) (u16At f start)), 3) ∷ lastFaults
+
+    abbrev kindFaults : List (Bool × ℕ)
+    kindFaults = (not (eqb (u16At f (start + 2)) kind), 2) ∷ lengthFaults
+
+    module _ (h : start + 4 ≤ length f) where
+      last-refused : kindAt f i ≡ kind → LengthFits (headOf f) kind (u16At f start) → firstFault lastFaults 0 ≡ r → RefusedFor f r start
+      unfolding bodyFault
+      last-refused k s e =
+          ⊎-elim
+          (λ d.
+          let l : length f - start - 4 < u16At f start = ltb-true _ _ (d .0) in
+          subst (λ (x : ℕ). RefusedFor f x start) (d .1) (body-cut i reached h k s (omega arith)))
+          (λ d.
+          let l : u16At f start ≤ length f - start - 4 = ltb-false _ _ (d .0) in
+          body-refused (record { head = h; kind = k; size = s; rest = omega arith }) (d .1))
+          (fault-cases (ltb (length f - start - 4) (u16At f start)) 1 _ 0 r e)
+
+      length-refused : kindAt f i ≡ kind → firstFault lengthFaults 0 ≡ r → RefusedFor f r start
+      length-refused k e =
+          ⊎-elim
+          (λ d. subst (λ (x : ℕ). RefusedFor f x start) (d .1)
+          (length-wrong i reached h k (length-not (headOf f) i kind _ (kind-cases (headOf f) i) (not-true _ (d .0)))))
+          (λ d. last-refused k (length-fits (headOf f) kind _ (not-false _ (d .0))) (d .1))
+          (fault-cases (not (lengthDue kind (sizeDue (headOf f) kind) (u16At f start))) 3 _ 0 r e)
+
+      kind-refused : firstFault kindFaults 0 ≡ r → RefusedFor f r start
+      kind-refused e =
+          ⊎-elim
+          (λ d. subst (λ (x : ℕ). RefusedFor f x start) (d .1) (kind-wrong i reached h (eqb-false _ _ (not-true _ (d .0)))))
+          (λ d. length-refused (eqb-true _ _ (not-false _ (d .0))) (d .1))
+          (fault-cases (not (eqb (u16At f (start + 2)) kind)) 2 _ 0 r e)
+
     record-refused : faultAt f (headOf f) i start ≡ r → RefusedFor f r start
-    unfolding faultAt bodyFault
+    unfolding faultAt
     record-refused e =
         ⊎-elim
-        (λ a. let c = a .1 in rw (← c) (head-cut i before (let l : length f - start < 4 = ltb-true _ _ (a .0) in omega arith)))
-        (λ a. let h : 4 ≤ length f - start = ltb-false _ _ (a .0) in
-        ⊎-elim
-        (λ b. let c = b .1 in rw (← c) (kind-wrong i before (omega arith) (eqb-false _ _ (not-true _ (b .0)))))
-        (λ b. let k = eqb-true _ _ (not-false _ (b .0)) in
-        ⊎-elim
-        (λ c. let d = c .1 in rw (← d) (length-wrong i before (omega arith) k (length-not (headOf f) i kind _ (kind-cases (headOf f) i) (not-true _ (c .0)))))
-        (λ c. let s = length-fits (headOf f) kind _ (not-false _ (c .0)) in
-        ⊎-elim
-        (λ d. let x = d .1 in rw (← x) (body-cut i before (omega arith) k s (let l : length f - start - 4 < u16At f start = ltb-true _ _ (d .0) in omega arith)))
-        (λ d. body-refused (record { head = omega arith; kind = k; size = s; rest = let l : u16At f start ≤ length f - start - 4 = ltb-false _ _ (d .0) in omega arith }) (d .1))
-        (fault-cases _ 1 _ 0 r (c .1)))
-        (fault-cases _ 3 _ 0 r (b .1)))
-        (fault-cases _ 2 _ 0 r (a .1)))
-        (fault-cases _ 1 _ 0 r e)
+        (λ d.
+        let l : length f - start < 4 = ltb-true _ _ (d .0) in
+        subst (λ (x : ℕ). RefusedFor f x start) (d .1) (head-cut i reached (omega arith)))
+        (λ d. let l : 4 ≤ length f - start = ltb-false _ _ (d .0) in kind-refused (omega arith) (d .1))
+        (fault-cases (ltb (length f - start) 4) 1 _ 0 r e)
 
 -- ---- the walk
 
