@@ -2,14 +2,14 @@
 -- definitions that they name: the crates' specs/, without specs/inside/. Lists of numbers stand for bytes; `sum` and `xorBelow` are XOR. Assumes nothing.
 use mathlib.Core.Path.{_≡_}
 use mathlib.Core.Logic.{_↔_, _⊎_, _≢_}
-use mathlib.Core.Bool.{Bool, true, _&&_}
+use mathlib.Core.Bool.{true, _&&_}
 use mathlib.Core.List.{List, [], _∷_, _++_, map}
-use Prim.Native.Nat.{ℕ, _^_, _≤_, _<_, _*_}
+use Prim.Native.Nat.{ℕ, _*_, _^_, _≤_, _<_}
 use lib.Count.{ones}
 use lib.ListN.{length, getD, take, drop}
 use lib.Dec.{eqb}
-use Rattle.finite.specs.Sums.{xorBelow}
 use Rattle.finite.specs.Tests.{count, tabulate}
+use Rattle.finite.specs.Sums.{xorBelow}
 use Rattle.anf.specs.NormalForm.{subsetSum, degree}
 use Rattle.anf.specs.Terms.{valueAt, TermList, names, Depends, passing}
 use Rattle.anf.specs.Points.{Points, IgnoresPoint}
@@ -42,9 +42,9 @@ use Rattle.checker.proofs.Exactly as exactly
 use Rattle.checker.proofs.Assurance as assured
 use Rattle.checker.proofs.Bench as checker-bench
 use Rattle.producer.specs.Direct.{isProduct, chosen, componentFor, directStage, directSharing, Shareable, Box}
-use Rattle.producer.specs.Producing.{produced, producedReason, producing, outputAfter, producedMost}
+use Rattle.producer.specs.Producing.{produced, producedReason, producing, outputAfter, Succeeds, producedMost}
 use Rattle.producer.specs.Bench as bench-producer
-use Rattle.producer.proofs.Theorems.{produced-sound, sixteen-exactly, output-file, output-rest, output-refused}
+use Rattle.producer.proofs.Theorems.{produced-sound, success-exactly, sixteen-exactly, output-file, output-rest, output-refused}
 use Rattle.producer.proofs.Counts.{products-count}
 use Rattle.producer.proofs.Room as producer-room
 use Rattle.producer.proofs.Bench as producer-bench
@@ -155,6 +155,10 @@ pub produced-judged : (m s n : ℕ) (t : List ℕ) → Box m s t → degree m (e
     → (verdict (produced m s t) n ≡ answer 0 1 0) ⊎ (verdict (produced m s t) n ≡ answer 14 1 0)
 produced-judged = produced-verdict
 
+-- 0 is answered exactly for a permutation table within the limits, of degree below s, whose file fits the output.
+pub produced-exactly : (m s : ℕ) (t : List ℕ) (room : ℕ) → (producedReason m s t room ≡ 0) ↔ Succeeds m s t room
+produced-exactly = success-exactly
+
 -- 16 is answered exactly when no component functions at all, of a file or not, share the table correctly and non-completely with s shares.
 pub refused-exactly : (m s : ℕ) (t : List ℕ) (room : ℕ) → Box m s t → (producedReason m s t room ≡ 16) ↔ (Shareable m s t → ⊥)
 refused-exactly = sixteen-exactly
@@ -171,9 +175,12 @@ produced-rest = output-rest
 pub refused-output : (m s : ℕ) (t out : List ℕ) → producedReason m s t (length out) ≢ 0 → outputAfter m s t out ≡ out
 refused-output = output-refused
 
--- How much output is always enough: for m and s, and for all of them.
+-- How much output is always enough: for m and s, and for all of them, which is the bound at m 4 and s 5.
 pub produced-most : (m s : ℕ) (t : List ℕ) → Box m s t → degree m (entry t) < s → length (produced m s t) ≤ producedMost m s
 produced-most = producer-room.produced-most
+
+pub most-met : producedMost 4 5 ≡ 20867
+most-met = producer-room.most-met
 
 pub output-enough : (m s : ℕ) (t : List ℕ) (room : ℕ) → 20867 ≤ room → producedReason m s t room ≢ 17
 output-enough = producer-room.room-enough
@@ -187,6 +194,7 @@ pub record Bench : Type 0 where
   pub verdicts : map (λ r. verdict (r .file) (r .workspace)) bench-checker.rows ≡ map (λ r. r .answer) bench-checker.rows
   pub runs : map (λ r. running (r .file) (r .shares)) bench-checker.runs ≡ map (λ r. r .answer) bench-checker.runs
   pub productions : map (λ r. producing (r .m) (r .s) (r .table) (length (r .output))) bench-producer.rows ≡ map (λ r. r .answer) bench-producer.rows
+  pub lists : directStage 1 3 (1 ∷ 0 ∷ []) .lists ≡ (0 ∷ 2 ∷ []) ∷ (4 ∷ []) ∷ (1 ∷ []) ∷ []
   pub outputs : map (λ r. outputAfter (r .m) (r .s) (r .table) (r .output)) bench-producer.rows ≡ map (λ r. r .after) bench-producer.rows
 
 pub bench : Bench
@@ -197,5 +205,6 @@ bench = record {
   verdicts = checker-bench.bench-verdicts;
   runs = checker-bench.bench-runs;
   productions = producer-bench.bench-answers;
+  lists = producer-bench.bench-lists;
   outputs = producer-bench.bench-outputs;
 }
