@@ -8,7 +8,7 @@ use Prim.Native.Nat.{ℕ, _*_, _^_, _≤_, _<_}
 use lib.Count.{ones}
 use lib.ListN.{length, getD, take, drop}
 use lib.Dec.{eqb}
-use Rattle.finite.specs.Tests.{count, tabulate}
+use Rattle.finite.specs.Tests.{pick, count, tabulate}
 use Rattle.finite.specs.Sums.{xorBelow}
 use Rattle.anf.specs.NormalForm.{subsetSum, degree}
 use Rattle.anf.specs.Terms.{valueAt, TermList, names, Depends, passing}
@@ -21,13 +21,14 @@ use Rattle.anf.proofs.Terms.{unique-terms, names-exactly}
 use Rattle.anf.proofs.Degree.{shares-bound}
 use Rattle.anf.proofs.Answers.{transform-back}
 use Rattle.anf.proofs.Bench as anf-bench
-use Rattle.design.specs.Limits.{checked, headAnswer}
+use Rattle.design.specs.Limits.{broken, checked, headAnswer}
 use Rattle.design.specs.Bytes.{Bytes}
 use Rattle.design.specs.Design.{Stage, Design, StageFits, WellFormed, SameMeaning}
 use Rattle.design.specs.Encode.{encode}
 use Rattle.design.specs.Reading.{refused, means, reading}
 use Rattle.design.specs.Refused.{RefusedFor}
 use Rattle.design.specs.Bench as bench-design
+use Rattle.design.proofs.Limits as limits
 use Rattle.design.proofs.Theorems as design-theorems
 use Rattle.design.proofs.Reasons as reasons
 use Rattle.design.proofs.Bench as design-bench
@@ -81,6 +82,10 @@ degree-limit = shares-bound
 -- 5. File. A file reads as d exactly when d is well formed and the file is the encoding of d.
 pub file-exactly : (f : List ℕ) (d : Design) → Bytes f → (reading f ≡ means d) ↔ (WellFormed d × (f ≡ encode d))
 file-exactly = design-theorems.file-exactly
+
+-- What the head's constructor answers, by the paper's number and values: 4 where a number breaks a limit, else 0 and the three numbers.
+pub head-answer : (m s k : ℕ) → headAnswer (checked m s k) ≡ pick (broken m s k) (4, []) (0, m ∷ s ∷ k ∷ [])
+head-answer = limits.head-answer
 
 -- A refusal has a reason of 1 to 7, and is explained: which record is at fault, that none before it is, and the first of its tests that fails.
 pub reason-range : (f : List ℕ) (r p : ℕ) → reading f ≡ refused r p → (1 ≤ r) × (r ≤ 7)
