@@ -14,6 +14,7 @@ use borrow.Author.Tests.{eq-eqb, ne-eqb}
 use Rattle.finite.specs.Tests.{all}
 use Rattle.finite.proofs.Testing.{all-more, all-fails}
 use Rattle.anf.specs.Tables.{entry}
+use Rattle.design.specs.Limits.{greatestPoints}
 use Rattle.design.specs.Design.{stageOf}
 use Rattle.design.specs.Reading.{meaning}
 use Rattle.design.specs.inside.Described.{Describes}
@@ -26,16 +27,16 @@ use Rattle.checker.proofs.StageFacts.{table-size}
 use borrow.Author.Count.{below-more}
 use Rattle.threshold.proofs.Tables.{chained-none, chained-lt, chained-next, chained-all}
 
--- ---- 64 bytes that are filled from their start: those before place x hold what g says
+-- ---- bytes that are filled from their start: those before place x hold what g says
 
 pub record Filled (g : ℕ → ℕ) (l : List ℕ) (x : ℕ) : Type 0 where
-  pub long : length l ≡ 64
+  pub long : length l ≡ greatestPoints
   pub holds : (y : ℕ) → y < x → getD l y 0 ≡ g y
 
-pub filled-start : (g : ℕ → ℕ) (l : List ℕ) → length l ≡ 64 → Filled g l 0
+pub filled-start : (g : ℕ → ℕ) (l : List ℕ) → length l ≡ greatestPoints → Filled g l 0
 filled-start g l e = record { long = e; holds = λ y h. absurd (not-suc-le-zero h) }
 
-filled-more : (g : ℕ → ℕ) (l : List ℕ) (x v : ℕ) → Filled g l x → x < 64 → v ≡ g x → Filled g (set l x v) (x + 1)
+filled-more : (g : ℕ → ℕ) (l : List ℕ) (x v : ℕ) → Filled g l x → x < greatestPoints → v ≡ g x → Filled g (set l x v) (x + 1)
 filled-more g l x v so h e = record {
   long = simp length-set (so .long);
   holds =
@@ -48,11 +49,11 @@ filled-end : (g : ℕ → ℕ) (l : List ℕ) (x n : ℕ) → Filled g l x → x
 filled-end g l x n so up low y h = so .holds y (omega arith)
 
 -- by its own number
-pub number-more : (l : List ℕ) (x : ℕ) → Filled (λ y. y) l x → x < 64 → Filled (λ y. y) (set l x x) (x + 1)
+pub number-more : (l : List ℕ) (x : ℕ) → Filled (λ y. y) l x → x < greatestPoints → Filled (λ y. y) (set l x x) (x + 1)
 number-more l x so h = filled-more (λ y. y) l x x so h refl
 
-pub number-end : (l : List ℕ) (x : ℕ) → Filled (λ y. y) l x → x ≤ 64 → 64 ≤ x → (y : ℕ) → y < 64 → getD l y 0 ≡ y
-number-end l x so up low y h = filled-end (λ y. y) l x 64 so up low y h
+pub number-end : (l : List ℕ) (x : ℕ) → Filled (λ y. y) l x → x ≤ greatestPoints → greatestPoints ≤ x → (y : ℕ) → y < greatestPoints → getD l y 0 ≡ y
+number-end l x so up low y h = filled-end (λ y. y) l x greatestPoints so up low y h
 
 -- by what a table makes of the entries of `from`
 abbrev pub throughAt : List ℕ → List ℕ → ℕ → ℕ
@@ -62,7 +63,7 @@ module _ (table from : List ℕ) (x n : ℕ) (h : x < n) (y : ℕ) (e : y ≡ ge
   pub through-within : ((z : ℕ) → z < n → getD from z 0 < length table) → y < length table
   through-within below = let b = below x h in omega arith
 
-  pub through-more : (l : List ℕ) → Filled (throughAt table from) l x → n ≤ 64 → Filled (throughAt table from) (set l x (getD table y 0)) (x + 1)
+  pub through-more : (l : List ℕ) → Filled (throughAt table from) l x → n ≤ greatestPoints → Filled (throughAt table from) (set l x (getD table y 0)) (x + 1)
   through-more l so most = filled-more (throughAt table from) l x (getD table y 0) so (omega arith) (ap (λ (z : ℕ). getD table z 0) e)
 
 pub through-end : (table from l : List ℕ) (x n : ℕ) → Filled (throughAt table from) l x → x ≤ n → n ≤ x → (y : ℕ) → y < n → getD l y 0 ≡ getD table (getD from y 0) 0
@@ -74,7 +75,7 @@ unfoldable pub ComposedTo : List ℕ → ℕ → List ℕ → Type 0
 ComposedTo f t c = (x : ℕ) → x < 2 ^ meaning f .m → getD c x 0 ≡ chained (take t (meaning f .stages)) x
 
 module _ (f : List ℕ) (l : Layout) (d : Describes f l) where
-  points-most : 2 ^ l .head .m ≤ 64
+  points-most : 2 ^ l .head .m ≤ greatestPoints
   points-most = pow-mono (described d .bounds .m-high)
 
   same-points : 2 ^ l .head .m ≡ 2 ^ meaning f .m
@@ -83,10 +84,10 @@ module _ (f : List ℕ) (l : Layout) (d : Describes f l) where
   pub few-points : l .head .m < 64
   few-points = let q = described d .bounds .m-high in omega arith
 
-  pub points-fit : (n : ℕ) → n ≡ 2 ^ l .head .m → n ≤ 64
+  pub points-fit : (n : ℕ) → n ≡ 2 ^ l .head .m → n ≤ greatestPoints
   points-fit n e = let q = points-most in omega arith
 
-  pub composed-start : (c : List ℕ) → ((x : ℕ) → x < 64 → getD c x 0 ≡ x) → ComposedTo f 0 c
+  pub composed-start : (c : List ℕ) → ((x : ℕ) → x < greatestPoints → getD c x 0 ≡ x) → ComposedTo f 0 c
   unfolding ComposedTo
   composed-start c h x k = h x (let e = same-points in let q = points-most in omega arith) ∙ sym (chained-none (meaning f .stages) x)
 
@@ -136,7 +137,7 @@ module _ (f c b : List ℕ) (x : ℕ) where
   box-size : (l : Layout) → Describes f l → b ≡ meaning f .box → length b ≡ 2 ^ l .head .m
   box-size l d e = ap length e ∙ described d .formed .box .size ∙ sym (same-points f l d)
 
-  pub same-inside : x < length b → b ≡ meaning f .box → (l : Layout) → Describes f l → x < 64
+  pub same-inside : x < length b → b ≡ meaning f .box → (l : Layout) → Describes f l → x < greatestPoints
   same-inside h e l d = omega (arith, box-size l d e, points-most f l d)
 
   module _ (l : Layout) (d : Describes f l) (h : x < length b) (e : b ≡ meaning f .box) (so : Composes (meaning f) (l .head .m) c) where

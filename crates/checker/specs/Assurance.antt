@@ -17,7 +17,7 @@ use Rattle.threshold.specs.Chain.{handed, meetings}
 use Rattle.threshold.specs.Running.{sharesFit, fiveSum, asNumber, asBytes, outputShares, running}
 
 -- five bytes are a sharing of x: used shares are below 2^m, unused ones zero, and they sum to x
-pub record Shares (d : Design) (x : ℕ) (l : List ℕ) : Type 0 where
+pub record SharingOf (d : Design) (x : ℕ) (l : List ℕ) : Type 0 where
   pub five : length l ≡ greatestShares
   pub fit : sharesFit (d .m) (d .s) l ≡ true
   pub sums : fiveSum l ≡ x
@@ -25,9 +25,9 @@ pub record Shares (d : Design) (x : ℕ) (l : List ℕ) : Type 0 where
 -- The sharings that are counted are those that are run. Each sharing of x as five bytes is one number below 2^(m × s) that shares x, and the other way
 -- round; and a run on the bytes of a number answers 0 and the bytes of what the last stage makes of that number.
 pub record OneSharing (f : List ℕ) (d : Design) : Type 0 where
-  pub number : (x : ℕ) (l : List ℕ) → Shares d x l
+  pub number : (x : ℕ) (l : List ℕ) → SharingOf d x l
       → (asNumber d l < 2 ^ (d .m * d .s)) × (sum (d .m) (d .s) (asNumber d l) ≡ x) × (asBytes d (asNumber d l) ≡ l)
-  pub bytes : (σ : ℕ) → σ < 2 ^ (d .m * d .s) → Shares d (sum (d .m) (d .s) σ) (asBytes d σ) × (asNumber d (asBytes d σ) ≡ σ)
+  pub bytes : (σ : ℕ) → σ < 2 ^ (d .m * d .s) → SharingOf d (sum (d .m) (d .s) σ) (asBytes d σ) × (asNumber d (asBytes d σ) ≡ σ)
   pub run : (σ : ℕ) → σ < 2 ^ (d .m * d .s) → running f (asBytes d σ) ≡ record { reason = 0; shares = asBytes d (handed (d .stages) (d .k) σ) }
 
 -- The file f reads as d, and for every secret x below 2^m:
@@ -37,7 +37,7 @@ pub record OneSharing (f : List ℕ) (d : Design) : Type 0 where
 pub record Assured (f : List ℕ) (d : Design) : Type 0 where
   pub reads : reading f ≡ means d
   pub met : (x : ℕ) → x < 2 ^ d .m → (i j q : ℕ) → i < d .k → j < d .s → q < 2 ^ (d .m * (d .s - 1)) → meetings (d .m) (d .s) (d .stages) x i j q ≡ 1
-  pub runs : (x : ℕ) → x < 2 ^ d .m → (l : List ℕ) → Shares d x l
+  pub runs : (x : ℕ) → x < 2 ^ d .m → (l : List ℕ) → SharingOf d x l
       → (running f l ≡ record { reason = 0; shares = outputShares d l }) × (fiveSum (outputShares d l) ≡ entry (d .box) x)
   pub same : OneSharing f d
 

@@ -1,21 +1,23 @@
-// The tables: their chain, and the first that repeats an entry. A table has at most 64 entries, 2 to the power of the greatest width.
+// The tables: their chain, and the first that repeats an entry.
+use design::GREATEST_POINTS;
 use design::Layout;
 use finite::wide;
 ghost use mathlib.Core.Path.{_≡_};
 ghost use Prim.Native.Nat.{ℕ, _≤_, _<_};
 ghost use lib.ListN.{length, getD};
+ghost use Rattle.design.specs.Limits.{greatestPoints};
 ghost use Rattle.design.specs.Reading.{meaning};
 ghost use Rattle.design.specs.inside.Described.{Describes};
 ghost use Rattle.checker.specs.Verdict.{chainIsBox, firstRepeating};
 ghost use Rattle.checker.specs.inside.Parts.{Composes};
 
-// The numbers 0 to 63, each at its own place.
-fn identity() -> [u8; 64]
-    ensures { λ r. ⌜ ((x : ℕ) → x < 64 → getD r x 0 ≡ x) ⌝ }
+// The numbers from 0 on, each at its own place.
+fn identity() -> [u8; GREATEST_POINTS]
+    ensures { λ r. ⌜ ((x : ℕ) → x < greatestPoints → getD r x 0 ≡ x) ⌝ }
 {
-    let mut c = [0u8; 64];
+    let mut c = [0u8; GREATEST_POINTS];
     let mut x: usize = 0;
-    while x < 64 {
+    while x < GREATEST_POINTS {
         c[x] = x as u8;
         x += 1;
     }
@@ -23,11 +25,11 @@ fn identity() -> [u8; 64]
 }
 
 // The first `n` entries of `from`, each replaced by what the table makes of it.
-fn through(table: &[u8], n: usize, from: [u8; 64]) -> [u8; 64]
-    requires { ⌜ (n ≤ 64) × ((x : ℕ) → x < n → getD from x 0 < length (now table)) ⌝ }
+fn through(table: &[u8], n: usize, from: [u8; GREATEST_POINTS]) -> [u8; GREATEST_POINTS]
+    requires { ⌜ (n ≤ greatestPoints) × ((x : ℕ) → x < n → getD from x 0 < length (now table)) ⌝ }
     ensures { λ r. ⌜ ((x : ℕ) → x < n → getD r x 0 ≡ getD (now (table .entry)) (getD from x 0) 0) ⌝ }
 {
-    let mut out = [0u8; 64];
+    let mut out = [0u8; GREATEST_POINTS];
     let mut x: usize = 0;
     while x < n {
         let y = wide(from[x]);
@@ -37,8 +39,8 @@ fn through(table: &[u8], n: usize, from: [u8; 64]) -> [u8; 64]
     out
 }
 
-// The table of the chain, in 64 bytes of its own: that of the first stage is applied first.
-fn composed(file: &[u8], layout: Layout) -> [u8; 64]
+// The table of the chain, in bytes of its own, as many as a table has at most: that of the first stage is applied first.
+fn composed(file: &[u8], layout: Layout) -> [u8; GREATEST_POINTS]
     requires { ⌜ Describes (now file) layout ⌝ }
     ensures { λ r. ⌜ Composes (meaning (now (file .entry))) (layout .head .m) r ⌝ }
 {

@@ -7,11 +7,11 @@ use lib.Arith.{digits-lt}
 use lib.ListN.{length, getD, take, drop, length-take, length-drop}
 use lib.Seq.{ext-getD, getD-take, getD-drop, take-all, length-take-le}
 use Rattle.finite.proofs.Testing.{tabulate-length, tabulate-at}
-use Rattle.design.specs.Bytes.{Bytes, u16At, terms, termBytes}
+use Rattle.design.specs.Bytes.{Bytes, u16At, termBytes}
 use Rattle.design.specs.Design.{stageOf, listOf}
 use Rattle.design.specs.Reading.{headOf, lastOf, numberOf, place, meaning}
 use Rattle.design.specs.inside.Described.{Describes}
-use Rattle.design.specs.inside.StageLists.{bodyAt, Inside, AllInside, listsOf}
+use Rattle.design.specs.inside.StageLists.{terms, bodyAt, Inside, AllInside, listsOf}
 use Rattle.design.specs.declared.Layout.{Layout}
 use Rattle.design.specs.Limits.{greatestRecords, greatestTerms}
 use Rattle.design.proofs.Limits.{records}

@@ -17,8 +17,9 @@ use Rattle.finite.specs.Tests.{pick}
 use Rattle.finite.specs.Sets.{subset}
 use Rattle.finite.proofs.Xor.{xor-cancel, xor-ac, bit-cases}
 use Rattle.anf.specs.Terms.{before, valueAt}
-use Rattle.design.specs.Bytes.{little, u32At, termBytes, terms}
+use Rattle.design.specs.Bytes.{little, u32At, termBytes}
 use Rattle.design.specs.Limits.{greatestTerms}
+use Rattle.design.specs.inside.StageLists.{terms}
 
 -- the terms from a place on
 pub terms-cons : (l : List ℕ) (at : ℕ) → at + 4 ≤ length l → terms (drop at l) ≡ u32At l at ∷ terms (drop (at + 4) l)

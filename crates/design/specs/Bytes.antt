@@ -35,11 +35,3 @@ four n = n % 256 ∷ n / 256 % 256 ∷ n / 65536 % 256 ∷ n / 16777216 ∷ []
 unfoldable pub termBytes : List ℕ → List ℕ
 termBytes [] = []
 termBytes (t ∷ ts) = four t ++ termBytes ts
-
--- the terms that bytes stand for, four bytes each
-unfoldable pub terms : List ℕ → List ℕ
-terms [] = []
-terms (a ∷ []) = []
-terms (a ∷ b ∷ []) = []
-terms (a ∷ b ∷ c ∷ []) = []
-terms (a ∷ b ∷ c ∷ d ∷ l) = little a b c d ∷ terms l

@@ -1,5 +1,5 @@
 -- "What the library covers": the limits, which are fixed with the head and belong to it. "The design file": the limit of a list.
-use Prim.Native.Nat.{ℕ, _+_, _*_}
+use Prim.Native.Nat.{ℕ, _+_, _*_, _^_}
 use mathlib.Core.Bool.{Bool, _||_}
 use mathlib.Core.List.{List, [], _∷_}
 use lib.Dec.{ltb}
@@ -22,6 +22,10 @@ greatestShareBits = 20
 
 abbrev pub greatestStages : ℕ
 greatestStages = 4
+
+-- what follows: the greatest number of entries of a table
+abbrev pub greatestPoints : ℕ
+greatestPoints = 2 ^ greatestWidth
 
 -- the greatest number of terms of a list
 abbrev pub greatestTerms : ℕ

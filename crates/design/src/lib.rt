@@ -24,6 +24,9 @@ pub use writer::record_size;
 ghost use mathlib.Core.Path.{_≡_};
 ghost use Rattle.design.specs.Limits.{checked};
 
+// The greatest number of entries of a table.
+pub const GREATEST_POINTS: usize = 1 << Head::GREATEST_WIDTH;
+
 // The greatest number of terms of a list.
 pub const GREATEST_TERMS: usize = 4096;
 

@@ -7,7 +7,7 @@ ghost use Rattle.finite.specs.Tests.{pick};
 ghost use Rattle.finite.specs.Sets.{subset};
 ghost use Rattle.anf.specs.Terms.{before, valueAt};
 ghost use Rattle.design.specs.Limits.{greatestTerms};
-ghost use Rattle.design.specs.Bytes.{terms};
+ghost use Rattle.design.specs.inside.StageLists.{terms};
 
 // Whether the term `a` stands before the term `b` in a list.
 pub fn stands_before(a: u32, b: u32) -> bool

@@ -13,16 +13,12 @@ fn print_number(n: usize) {
     io::print_decimal(1, n as u64);
 }
 
-fn wide(b: u8) -> usize {
-    b as usize
-}
-
 // A table's entries, in decimal.
 fn print_table(t: &[u8]) {
     let mut x = 0;
     while x < t.len() {
         print(b" ");
-        print_number(wide(t[x]));
+        print_number(finite::wide(t[x]));
         x += 1;
     }
     print(b"\n");

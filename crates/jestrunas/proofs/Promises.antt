@@ -1,5 +1,5 @@
 -- Every theorem that a customer relies on, stated in full and cited. Whoever trusts the proof checker reads this file, the contracts of src/lib.rt, and the
--- definitions that they name: the crates' specs/, without specs/inside/. Lists of numbers stand for bytes; `sum` and `xorBelow` are XOR. Assumes nothing.
+-- definitions that they name: docs/PROMISES.md lists their files. Lists of numbers stand for bytes; `sum` and `xorBelow` are XOR. Assumes nothing.
 use mathlib.Core.Path.{_≡_}
 use mathlib.Core.Logic.{_↔_, _⊎_, _≢_}
 use mathlib.Core.Bool.{true, _&&_}
@@ -23,7 +23,7 @@ use Rattle.anf.proofs.Answers.{transform-back}
 use Rattle.anf.proofs.Bench as anf-bench
 use Rattle.design.specs.Limits.{broken, checked, headAnswer}
 use Rattle.design.specs.Bytes.{Bytes}
-use Rattle.design.specs.Design.{Stage, Design, StageFits, WellFormed, SameMeaning}
+use Rattle.design.specs.Design.{Stage, Design, TableFits, StageFits, WellFormed, SameMeaning}
 use Rattle.design.specs.Encode.{encode}
 use Rattle.design.specs.Reading.{refused, means, reading}
 use Rattle.design.specs.Refused.{RefusedFor}
@@ -46,6 +46,7 @@ use Rattle.producer.specs.Direct.{isProduct, chosen, componentFor, directStage,
 use Rattle.producer.specs.Producing.{produced, producedReason, producing, outputAfter, Succeeds, producedMost}
 use Rattle.producer.specs.Bench as bench-producer
 use Rattle.producer.proofs.Theorems.{produced-sound, success-exactly, sixteen-exactly, output-file, output-rest, output-refused}
+use Rattle.producer.proofs.Shareable as shareable
 use Rattle.producer.proofs.Counts.{products-count}
 use Rattle.producer.proofs.Room as producer-room
 use Rattle.producer.proofs.Bench as producer-bench
@@ -164,6 +165,10 @@ produced-judged = produced-verdict
 pub produced-exactly : (m s : ℕ) (t : List ℕ) (room : ℕ) → (producedReason m s t room ≡ 0) ↔ Succeeds m s t room
 produced-exactly = success-exactly
 
+-- A table of m bits can be shared so with s shares, by some component functions, exactly when its degree is below s.
+pub shareable-exactly : (m s : ℕ) (t : List ℕ) → 1 ≤ s → TableFits m t → Shareable m s t ↔ degree m (entry t) < s
+shareable-exactly = shareable.shareable-exactly
+
 -- 16 is answered exactly when no component functions at all, of a file or not, share the table correctly and non-completely with s shares.
 pub refused-exactly : (m s : ℕ) (t : List ℕ) (room : ℕ) → Box m s t → (producedReason m s t room ≡ 16) ↔ (Shareable m s t → ⊥)
 refused-exactly = sixteen-exactly
@@ -195,6 +200,7 @@ output-enough = producer-room.room-enough
 pub record Bench : Type 0 where
   pub passages : bench-anf.AllPass bench-anf.rows
   pub heads : map (λ r. headAnswer (checked (r .m) (r .s) 1)) bench-design.headRows ≡ map (λ r. r .answer) bench-design.headRows
+  pub encoded : encode bench-design.designD ≡ bench-design.fileD
   pub readings : map (λ r. reading (r .file)) bench-design.rows ≡ map (λ r. r .answer) bench-design.rows
   pub verdicts : map (λ r. verdict (r .file) (r .workspace)) bench-checker.rows ≡ map (λ r. r .answer) bench-checker.rows
   pub runs : map (λ r. running (r .file) (r .shares)) bench-checker.runs ≡ map (λ r. r .answer) bench-checker.runs
@@ -206,6 +212,7 @@ pub bench : Bench
 bench = record {
   passages = anf-bench.bench;
   heads = design-bench.bench-heads;
+  encoded = design-bench.D-encoded;
   readings = design-bench.bench;
   verdicts = checker-bench.bench-verdicts;
   runs = checker-bench.bench-runs;

@@ -1,6 +1,7 @@
 // The published operations, exported to C. Each is a call of the layer below, with the same contract and no `requires`.
 use checker::Verdict;
 use design::Produced;
+use threshold::FiveShares;
 use threshold::Ran;
 ghost use mathlib.Core.Path.{_≡_};
 ghost use lib.ListN.{length};
@@ -13,7 +14,7 @@ ghost use Rattle.jestrunas.specs.Published.{readAnswer};
 // Five shares, the greatest number of them, by value; the unused ones are zero.
 #[repr(C)]
 pub struct Shares {
-    pub share: [u8; 5],
+    pub share: FiveShares,
 }
 
 // Reads a design file: the first fault and its place, or three zeros.

@@ -2,7 +2,7 @@
 -- one share's bit of v, share by share, and no two shares give the same.
 use mathlib.Core.Path.{_≡_, sym, ap, ap₂, _∙_}
 use mathlib.Core.Bool.{Bool, true, false, not}
-use Prim.Native.Nat.{ℕ, suc, _+_, _-_, _*_, _/_, _%_, _^_, _≤_, _<_}
+use Prim.Native.Nat.{ℕ, suc, _+_, _*_, _/_, _%_, _^_, _≤_, _<_}
 use native.Mathlib.Nat.{mod-lt, div-add-mod, div-lt-iff-lt-mul, mul-comm}
 use native.Mathlib.Decide.{decLt, ℕ-discrete}
 use native.Mathlib.Omega.{arith}
@@ -110,9 +110,6 @@ extends-all m s u p q =
 -- p has no bit of a variable below v
 abbrev pub Clean : ℕ → ℕ → ℕ → ℕ → Type 0
 Clean m s v p = (w : ℕ) → w < v → (j : ℕ) → j < s → has p (m * j + w) ≡ false
-
-bit-true : (b : Bool) → b ≡ true → bit b ≡ 1
-bit-true b e = ap bit e
 
 module _ (m s u v p : ℕ) (lv : v < m) (clean : Clean m s (suc v) p) where
   -- the variable v is not in u

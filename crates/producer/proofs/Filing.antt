@@ -15,7 +15,7 @@ use Rattle.design.specs.inside.Overwriting.{overwrite, listRecords}
 use Rattle.design.proofs.Limits.{bounds}
 use Rattle.design.proofs.Overwriting.{overwrite-nil, record-length}
 use Rattle.design.proofs.Putting.{records-none, runs-three}
-use Rattle.producer.specs.inside.Expanding.{Gathers, tableRecords, oneStageFile}
+use Rattle.producer.specs.inside.Expanding.{Gathers, tableRecords, oneStageFile, listMost, listsMost}
 use Rattle.producer.proofs.Writing.{tables-length, file-records, file-length}
 
 -- ---- the lists: count is how many terms there are in list i
@@ -40,10 +40,10 @@ module _ (rule : List ℕ) (m s words room : ℕ) (g : Gathers rule m s words ro
     pub turn-fits : Fits w64 (i + 1)
     turn-fits = record { fits = omega (arith, bounds m s 1 (g .limits) .bits) }
 
-    pub size-fits : (size count r : ℕ) → size ≤ i * 16388 → count ≤ greatestTerms → r ≡ 4 + 4 * count → Fits w64 (size + r)
+    pub size-fits : (size count r : ℕ) → size ≤ i * listMost → count ≤ greatestTerms → r ≡ 4 + 4 * count → Fits w64 (size + r)
     size-fits size count r b l e = record { fits = omega (arith, bounds m s 1 (g .limits) .bits) }
 
-  pub size-bound : (size i : ℕ) → size ≤ i * 16388 → i ≤ m * s → size ≤ 327760
+  pub size-bound : (size i : ℕ) → size ≤ i * listMost → i ≤ m * s → size ≤ listsMost
   size-bound size i b h = omega (arith, bounds m s 1 (g .limits) .bits)
 
 pub terms-fit : (count : ℕ) → count ≤ greatestTerms → Fits w64 (4 * count)
@@ -52,7 +52,7 @@ terms-fit count l = record { fits = omega arith }
 pub body-short : (count : ℕ) → count ≤ greatestTerms → 4 * count < 65536
 body-short count l = omega arith
 
-pub bound-more : (size count r i : ℕ) → size ≤ i * 16388 → count ≤ greatestTerms → r ≡ 4 + 4 * count → size + r ≤ (i + 1) * 16388
+pub bound-more : (size count r i : ℕ) → size ≤ i * listMost → count ≤ greatestTerms → r ≡ 4 + 4 * count → size + r ≤ (i + 1) * listMost
 bound-more size count r i b l e = omega arith
 
 pub terms-within : (rule : List ℕ) (m s words : ℕ) (list₀ list list′ : List ℕ) (count : ℕ) → Gathers rule m s words (length list₀) → length list ≡ length list₀ → length list′ ≡ length list
@@ -134,8 +134,8 @@ module _ (rule : List ℕ) (m s words room : ℕ) (g : Gathers rule m s words ro
     pub tables-sum : Fits w64 (a + 2 * b)
     tables-sum = record { fits = omega (arith, table-body) }
 
-    pub with-lists : (k : ℕ) → k ≤ 327760 → Fits w64 (a + 2 * b + k)
+    pub with-lists : (k : ℕ) → k ≤ listsMost → Fits w64 (a + 2 * b + k)
     with-lists k l = record { fits = omega (arith, table-body) }
 
-    pub with-end : (k e : ℕ) → k ≤ 327760 → e ≡ 4 + 0 → Fits w64 (a + 2 * b + k + e)
+    pub with-end : (k e : ℕ) → k ≤ listsMost → e ≡ 4 + 0 → Fits w64 (a + 2 * b + k + e)
     with-end k e l ee = record { fits = omega (arith, table-body) }

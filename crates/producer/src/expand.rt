@@ -12,8 +12,12 @@ ghost use Rattle.design.specs.Limits.{greatestTerms};
 ghost use Rattle.producer.specs.Direct.{directList};
 ghost use Rattle.producer.specs.inside.Expanding.{ending, emitted, inserted, Grown, brought, ruleRows, ruleTables, Highest, Expands, Gathers};
 
-// The component to which a product goes, by the set of its chosen shares, eight sets a row. Of all shares there is none.
-const RULES: [[u8; 8]; 7] = [
+// The rows of the rule's tables, eight sets of shares a row, and how many sets they have together.
+const RULE_ROWS: usize = 7;
+pub const RULE_SETS: usize = 8 * RULE_ROWS;
+
+// The component to which a product goes, by the set of its chosen shares. Of all shares there is none.
+const RULES: [[u8; 8]; RULE_ROWS] = [
     // three shares
     [0, 2, 0, 2, 1, 1, 0, 3],
     // four
@@ -26,20 +30,20 @@ const RULES: [[u8; 8]; 7] = [
     [2, 2, 0, 2, 1, 1, 0, 5],
 ];
 
-fn rule_rows() -> [[u8; 8]; 7]
+fn rule_rows() -> [[u8; 8]; RULE_ROWS]
     ensures { λ r. ⌜ r ≡ ruleRows ⌝ }
 {
     RULES
 }
 
 // The tables of the rule for 3, 4 and 5 shares, one behind the other.
-pub fn rules() -> [u8; 56]
+pub fn rules() -> [u8; RULE_SETS]
     ensures { λ r. ⌜ r ≡ ruleTables ⌝ }
 {
     let rows = rule_rows();
-    let mut tables = [0u8; 56];
+    let mut tables = [0u8; RULE_SETS];
     let mut i: usize = 0;
-    while i < 56 {
+    while i < RULE_SETS {
         tables[i] = rows[i / 8][i % 8];
         i += 1;
     }

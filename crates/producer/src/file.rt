@@ -11,12 +11,12 @@ ghost use Prim.Native.Nat.{_+_, _^_, _≤_};
 ghost use lib.ListN.{length};
 ghost use Rattle.design.specs.Limits.{broken};
 ghost use Rattle.design.specs.inside.Overwriting.{overwrite, listRecords};
-ghost use Rattle.producer.specs.inside.Expanding.{Gathers, tableRecords, wordsLists, wordsFile};
+ghost use Rattle.producer.specs.inside.Expanding.{Gathers, tableRecords, listsMost, wordsLists, wordsFile};
 
 // How many bytes the lists take.
 fn lists_size(rule: &[u8], m: usize, s: usize, words: &[u8], list: &mut [u32]) -> usize
     requires { ⌜ Gathers (now rule) m s (length (now words)) (length (now list)) ⌝ }
-    ensures { λ r. ⌜ (r ≡ length (listRecords (wordsLists m s (now (words .entry))))) × (r ≤ 327760) ⌝ }
+    ensures { λ r. ⌜ (r ≡ length (listRecords (wordsLists m s (now (words .entry))))) × (r ≤ listsMost) ⌝ }
 {
     let n = m * s;
     let mut size: usize = 0;

@@ -7,6 +7,7 @@ use anf::repeats;
 use anf::to_coefficients;
 use anf::words_degree;
 use design::Checked;
+use design::GREATEST_POINTS;
 use design::GREATEST_TERMS;
 use design::Head;
 use design::Produced;
@@ -66,7 +67,7 @@ fn produce_permutation(m: usize, s: usize, table: &[u8], output: &mut [u8]) -> P
     ensures { λ r. ⌜ r ≡ producing m s (now (table .entry)) (length (now (output .entry))) ⌝ }
     ensures { λ _. ⌜ now (output .exit) ≡ outputAfter m s (now (table .entry)) (now (output .entry)) ⌝ }
 {
-    let mut words = [0u8; 1 << Head::GREATEST_WIDTH];
+    let mut words = [0u8; GREATEST_POINTS];
     to_coefficients(m, table, &mut words);
     let degree = words_degree(&words[0..table.len()]);
     if s <= degree {

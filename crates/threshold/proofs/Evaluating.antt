@@ -17,11 +17,10 @@ use mir.Val.{Fits}
 use Rattle.anf.specs.Terms.{valueAt}
 use Rattle.anf.proofs.Terms.{valueAt-lt}
 use Rattle.design.specs.Limits.{greatestWidth, greatestShareBits, greatestRecords}
-use Rattle.design.specs.Bytes.{terms}
 use Rattle.design.specs.Design.{stageOf}
 use Rattle.design.specs.Reading.{meaning, numberOf}
 use Rattle.design.specs.inside.Described.{Describes}
-use Rattle.design.specs.inside.StageLists.{bodyAt, Inside, AllInside, listsOf}
+use Rattle.design.specs.inside.StageLists.{terms, bodyAt, Inside, AllInside, listsOf}
 use Rattle.design.specs.declared.Layout.{Layout}
 use Rattle.design.proofs.Answered.{described}
 use Rattle.design.proofs.StageLists.{listsOf-length, listsOf-at, lists-inside, lists-known, lists-are}
@@ -148,14 +147,14 @@ module _ (f : List ℕ) (y : Layout) (d : Describes f y) where
           q ∙ ap (λ (l : List (List ℕ)). output l x) (lists-are f (λ i. omega (arith, bytes i)) y d t u (y .head .m * j) (y .head .m) first lists-before e)
           ∙ sym (output-share x (y .head .m) j (stageOf (meaning f) t .lists))
 
--- ---- `ones`: p is the number of values of a share
+-- ---- `share_mask`: p is the number of values of a share
 
 module _ (m p : ℕ) (e : p ≡ 2 ^ m) where
   pub some-values : 1 ≤ p
   some-values = omega (arith, pow-pos m)
 
-  pub ones-fit : m ≤ greatestWidth → p - 1 < 2 ^ 32
-  ones-fit h = let q : 2 ^ m ≤ 2 ^ greatestWidth = pow-mono h in omega arith
+  pub mask-fits : m ≤ greatestWidth → p - 1 < 2 ^ 32
+  mask-fits h = let q : 2 ^ m ≤ 2 ^ greatestWidth = pow-mono h in omega arith
 
 -- ---- `sum_of`: total is the sum of the shares passed, rest holds those left
 

@@ -1,9 +1,9 @@
 -- Running a chain on five shares, the greatest number of them: bytes that travel together, unused ones zero (the paper's "Running a chain").
 use Prim.Native.Nat.{ℕ, _*_, _^_}
 use mathlib.Core.Bool.{Bool}
-use mathlib.Core.List.{List, [], _∷_}
+use mathlib.Core.List.{List}
 use lib.Dec.{eqb, ltb}
-use lib.ListN.{getD}
+use lib.ListN.{getD, replicate}
 use Rattle.finite.specs.Tests.{pick, all, total, tabulate}
 use Rattle.finite.specs.Sums.{xorBelow}
 use Rattle.design.specs.Limits.{greatestShares}
@@ -33,7 +33,7 @@ abbrev pub fiveSum : List ℕ → ℕ
 fiveSum l = xorBelow greatestShares (λ j. getD l j 0)
 
 abbrev pub fiveZeros : List ℕ
-fiveZeros = 0 ∷ 0 ∷ 0 ∷ 0 ∷ 0 ∷ []
+fiveZeros = replicate greatestShares 0
 
 -- a refusal answers its number and five zeros
 abbrev pub refusedRun : ℕ → Ran

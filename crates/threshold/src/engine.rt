@@ -4,12 +4,11 @@ ghost use mathlib.Core.Path.{_≡_};
 ghost use Prim.Native.Nat.{_+_, _-_, _*_, _^_, _≤_, _<_};
 ghost use lib.ListN.{length};
 ghost use Rattle.anf.specs.Terms.{valueAt};
-ghost use Rattle.design.specs.Bytes.{terms};
 ghost use Rattle.design.specs.Limits.{greatestWidth, greatestShareBits};
 ghost use Rattle.design.specs.Design.{stageOf};
 ghost use Rattle.design.specs.Reading.{meaning};
 ghost use Rattle.design.specs.inside.Described.{Describes};
-ghost use Rattle.design.specs.inside.StageLists.{bodyAt, Inside, AllInside, listsOf};
+ghost use Rattle.design.specs.inside.StageLists.{terms, bodyAt, Inside, AllInside, listsOf};
 ghost use Rattle.threshold.specs.Sharing.{sum};
 ghost use Rattle.threshold.specs.Stages.{output, component};
 
@@ -48,8 +47,8 @@ pub fn component_at(file: &[u8], layout: Layout, t: usize, j: usize, x: u32) -> 
     output_of(file, &starts, first, layout.head.m, x)
 }
 
-// 2 to the power of `m`, less 1.
-fn ones(m: usize) -> u32
+// The bits of a share of width `m`: 2 to the power of `m`, less 1.
+fn share_mask(m: usize) -> u32
     requires { ⌜ m ≤ greatestWidth ⌝ }
     ensures { λ r. ⌜ r ≡ 2 ^ m - 1 ⌝ }
 {
@@ -61,7 +60,7 @@ pub fn sum_of(x: u32, m: usize, s: usize) -> u32
     requires { ⌜ m ≤ greatestWidth ⌝ }
     ensures { λ r. ⌜ (r ≡ sum m s x) × (r < 2 ^ m) ⌝ }
 {
-    let mask = ones(m);
+    let mask = share_mask(m);
     let shift = m as u32;
     let mut total: u32 = 0;
     let mut rest = x;

@@ -12,7 +12,7 @@ use Rattle.finite.specs.Faults.{firstFault}
 use Rattle.anf.specs.NormalForm.{subsetSum, degree}
 use Rattle.anf.specs.Tables.{entriesBelow, entry}
 use Rattle.anf.specs.Terms.{before}
-use Rattle.design.specs.Limits.{greatestTerms, broken}
+use Rattle.design.specs.Limits.{greatestShareBits, greatestTerms, broken}
 use Rattle.design.specs.Encode.{aRecord, encode}
 use Rattle.producer.specs.Direct.{componentFor, directLists}
 use Rattle.producer.specs.Producing.{produced, producedReason}
@@ -90,6 +90,13 @@ tableRecords m s t = aRecord 1 (m ∷ s ∷ 1 ∷ []) ++ (aRecord 2 t ++ aRecord
 -- the file of one stage with G equal to S
 unfoldable pub oneStageFile : ℕ → ℕ → List ℕ → List (List ℕ) → List ℕ
 oneStageFile m s t ls = encode (record { m = m; s = s; k = 1; box = t; stages = record { table = t; lists = ls } ∷ [] })
+
+-- the most bytes that the record of a list takes, and those of a stage's lists
+abbrev pub listMost : ℕ
+listMost = 4 + 4 * greatestTerms
+
+abbrev pub listsMost : ℕ
+listsMost = greatestShareBits * listMost
 
 -- the lists that coefficient words give, and the file with them
 abbrev pub wordsLists : ℕ → ℕ → List ℕ → List (List ℕ)

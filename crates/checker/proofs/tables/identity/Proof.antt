@@ -2,15 +2,16 @@
 use Prim.Native.Nat.{_-_, _≤_}
 use native.Mathlib.Omega.{arith}
 use borrow.Author.Needs.{needs}
+use Rattle.design.specs.Limits.{greatestPoints}
 use Rattle.checker.proofs.Composing.{Filled, filled-start, number-more, number-end}
 use Rattle.checker.proofs.tables.identity.Statement.{statement}
 use Rattle.checker.proofs.tables.identity.Tie as tie
 
 abbrev Inv-loop : tie.InvT-loop
-Inv-loop c₀ x₀ c x = (x ≤ 64) × Filled (λ y. y) c x
+Inv-loop c₀ x₀ c x = (x ≤ greatestPoints) × Filled (λ y. y) c x
 
 abbrev μ-loop : tie.MeasureT-loop
-μ-loop c₀ x₀ c x = 64 - x
+μ-loop c₀ x₀ c x = greatestPoints - x
 
 pub identity-spec : {M : Type 1} → statement M
 identity-spec =

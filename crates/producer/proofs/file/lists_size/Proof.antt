@@ -4,6 +4,7 @@ use Prim.Native.Nat.{_-_, _*_, _≤_}
 use native.Mathlib.Omega.{arith}
 use lib.ListN.{length, getD, take}
 use Rattle.producer.specs.Direct.{directLists}
+use Rattle.producer.specs.inside.Expanding.{listMost}
 use Rattle.design.specs.inside.Overwriting.{listRecords}
 use Rattle.producer.proofs.Filing.{none-counted, bits-fit, some-bit, bit-within, gathers-still, turn-fits, size-fits, terms-fit, body-short, bound-more, size-bound}
 use Rattle.producer.proofs.Writing.{size-more, size-all}
@@ -12,7 +13,7 @@ use Rattle.producer.proofs.file.lists_size.Tie as tie
 
 abbrev Inv-loop : tie.InvT-loop
 Inv-loop rule m s words list₀ n size₀ i₀ list size i =
-    (i ≤ n) × (length list ≡ length list₀) × (size ≡ length (listRecords (take i (directLists m s (λ u. getD words u 0))))) × (size ≤ i * 16388)
+    (i ≤ n) × (length list ≡ length list₀) × (size ≡ length (listRecords (take i (directLists m s (λ u. getD words u 0))))) × (size ≤ i * listMost)
 
 abbrev μ-loop : tie.MeasureT-loop
 μ-loop rule m s words list₀ n size₀ i₀ list size i = n - i
