@@ -94,7 +94,7 @@ module _ (t : List ℕ) where
     unfolding metBefore
     once-more q p = record { so = any-none-more i _ (p .so) (sym e ∙ q) }
 
--- ---- `variables`, `words_degree`: d is the degree that the words passed give
+-- ---- `word_degree`, `words_degree`: d is the degree that the words passed give
 
 -- a set of 32 bits has at most 32 variables
 pub ones-fit : (u : ℕ) → u < 2 ^ 32 → Fits w64 (ones u)

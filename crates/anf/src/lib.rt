@@ -67,14 +67,14 @@ pub fn words_degree(words: &[u8]) -> usize
     let mut degree: usize = 0;
     let mut u: usize = 0;
     while u < words.len() {
-        degree = larger(degree, variables(words[u], u as u32));
+        degree = larger(degree, word_degree(words[u], u as u32));
         u += 1;
     }
     degree
 }
 
 // How many variables the set u has, or 0 where its coefficient word is 0.
-fn variables(word: u8, u: u32) -> usize
+fn word_degree(word: u8, u: u32) -> usize
     ensures { λ r. ⌜ r ≡ pick (eqb word 0) 0 (ones u) ⌝ }
 {
     if word == 0 {

@@ -102,13 +102,13 @@ length-termBytes (t ∷ ts) = let e = length-termBytes ts in omega arith
 -- ---- counting terms
 
 -- r is the count with a term more
-pub count-one : (n t x : ℕ) → bitOr t x ≡ x → n + 1 ≡ n + pick (subset t x) 1 0
+pub term-counted : (n t x : ℕ) → bitOr t x ≡ x → n + 1 ≡ n + pick (subset t x) 1 0
 unfolding subset
-count-one n t x o = let q : bitAnd t x ≡ t = omega (arith, or-add-and t x) in rw (eq-eqb _ _ q) refl
+term-counted n t x o = let q : bitAnd t x ≡ t = omega (arith, or-add-and t x) in rw (eq-eqb _ _ q) refl
 
-pub count-none : (n t x : ℕ) → (bitOr t x ≡ x → ⊥) → n ≡ n + pick (subset t x) 1 0
+pub term-passed : (n t x : ℕ) → (bitOr t x ≡ x → ⊥) → n ≡ n + pick (subset t x) 1 0
 unfolding subset
-count-none n t x o =
+term-passed n t x o =
     let q : bitAnd t x ≡ t → ⊥ = λ z. o (omega (arith, or-add-and t x)) in
     rw (ne-eqb _ _ q) (sym (add-zero n))
 

@@ -14,7 +14,7 @@ use borrow.Author.Tests.{eqb-true, eq-eqb}
 use native.Mathlib.Decide.{decLt}
 use Rattle.finite.specs.Tests.{implies, all, any, bit, count, total}
 use Rattle.finite.specs.Sets.{subset, has}
-use Rattle.finite.proofs.Testing.{bool-ext, true-or-false, and-intro, and-left, and-right, implies-at, implies-intro, all-at, all-intro, any-none, below, or-right}
+use Rattle.finite.proofs.Testing.{bool-ext, true-or-false, and-intro, and-left, and-right, implies-at, implies-intro, all-at, all-intro, any-none, below, or-right, or-false-right}
 use Rattle.finite.proofs.Xor.{bit-cases, digits-eq, xor-bit, and-bit}
 use Rattle.finite.proofs.Subsets.{subset-eq, eq-subset, subset-iff}
 
@@ -186,11 +186,7 @@ module _ (p k : ℕ) where
   has-with = has-or p (2 ^ k) k ∙ or-right (has p k) (has (2 ^ k) k) (has-power k)
 
   pub has-with-other : (i : ℕ) → i ≢ k → has (bitOr p (2 ^ k)) i ≡ has p i
-  has-with-other i n = has-or p (2 ^ k) i ∙ ap (λ (b : Bool). has p i || b) (has-power-other k i n) ∙ or-none (has p i)
-    where
-      or-none : (b : Bool) → (b || false) ≡ b
-      or-none true = refl
-      or-none false = refl
+  has-with-other i n = has-or p (2 ^ k) i ∙ or-false-right (has p i) (has (2 ^ k) i) (has-power-other k i n)
 
 -- ---- a set made of its elements
 

@@ -16,7 +16,8 @@ use lib.Seq.{take-suc, take-suc-set, take-all}
 use borrow.Author.Tests.{eqb-true, eq-eqb, ne-eqb, lt-ltb, le-ltb, le-leb}
 use Rattle.finite.specs.Tests.{pick, implies, all, any, first, tabulate}
 use Rattle.finite.specs.Sets.{has}
-use Rattle.finite.proofs.Testing.{true-or-false, not-true-false, clash, below, pick-true, pick-false, and-intro, and-left, and-right, or-none, any-at, any-some, all-at, implies-at, tabulate-at}
+use Rattle.finite.proofs.Testing.{true-or-false, not-true-false, clash, below, pick-true, pick-false, and-intro, and-left, and-right}
+use Rattle.finite.proofs.Testing.{or-none, or-false-right, any-at, any-some, all-at, implies-at, tabulate-at}
 use Rattle.finite.proofs.Elements.{has-none}
 use Rattle.anf.specs.Terms.{before, passing}
 use Rattle.anf.proofs.Terms.{Rising}
@@ -71,17 +72,13 @@ inserted-passing (suc n) t P l f =
     ∙ ap (inserted n) (append-nil (passing n P))
     ∙ inserted-last 0 n (passing n P) (passing-rising n P)
     ∙ ap₂ _++_
-    (passing-congr n P (λ q. P q || eqb q t) (λ q k. sym (ap (λ (b : Bool). P q || b) (ne-eqb q t (λ y. omega arith)) ∙ or-no (P q))))
+    (passing-congr n P (λ q. P q || eqb q t) (λ q k. sym (or-false-right (P q) (eqb q t) (ne-eqb q t (λ y. omega arith)))))
     (sym (ap (λ (b : Bool). pick b (n ∷ []) []) (ap₂ _||_ z (eq-eqb n t (sym e))))))
     (λ k.
     at (P n) k
     ∙ ap₂ _++_ (inserted-passing n t P k f)
-    (sym (ap (λ (b : Bool). pick b (n ∷ []) []) (ap (λ (b : Bool). P n || b) (ne-eqb n t (λ y. omega arith)) ∙ or-no (P n)))))
+    (sym (ap (λ (b : Bool). pick b (n ∷ []) []) (or-false-right (P n) (eqb n t) (ne-eqb n t (λ y. omega arith))))))
   where
-    or-no : (b : Bool) → (b || false) ≡ b
-    or-no true = refl
-    or-no false = refl
-
     at : (b : Bool) → t < n → inserted t (passing n P ++ pick b (n ∷ []) []) ≡ inserted t (passing n P) ++ pick b (n ∷ []) []
     at true k = inserted-first 0 n t (passing n P) (passing-rising n P) k
     at false k = ap (inserted t) (append-nil (passing n P)) ∙ sym (append-nil (inserted t (passing n P)))
@@ -104,10 +101,6 @@ module _ (rule : List ℕ) (m s u c : ℕ) (some : 0 < m) (follows : Follows s r
   Added v p =
       (P : ℕ → Bool) → ((q : ℕ) → q < N → extends m s u v p q ≡ true → P q ≡ false)
       → insertedAll (emitted rule m s u c v p (chosen m s p)) (passing N P) ≡ passing N (λ q. P q || (extends m s u v p q && goes q))
-
-  or-no : (b : Bool) → (b || false) ≡ b
-  or-no true = refl
-  or-no false = refl
 
   -- no variable left
   added-end : (p : ℕ) → p < N → Added 0 p
@@ -132,7 +125,7 @@ module _ (rule : List ℕ) (m s u c : ℕ) (some : 0 < m) (follows : Follows s r
           ap (λ (ts : List ℕ). insertedAll ts (passing N P))
           (ending-other rule c p (chosen m s p) (λ e. clash (eq-eqb (componentFor s (chosen m s p)) c (sym is ∙ e)) f))
           ∙ inserted-none (passing N P)
-          ∙ passing-congr N _ _ (λ q l. sym (ap (λ (b : Bool). P q || (b && goes q)) (extends-none m s u p q some lp l) ∙ other q (true-or-false (eqb q p)) ∙ or-no (P q)))
+          ∙ passing-congr N _ _ (λ q l. sym (ap (λ (b : Bool). P q || (b && goes q)) (extends-none m s u p q some lp l) ∙ other q (true-or-false (eqb q p)) ∙ or-false-right (P q) false refl))
         where
           other : (q : ℕ) → (eqb q p ≡ true) ⊎ (eqb q p ≡ false) → (P q || (eqb q p && goes q)) ≡ (P q || false)
           other q (inl e) = ap (λ (b : Bool). P q || b) (ap (λ (b : Bool). b && goes q) e ∙ ap goes (eqb-true q p e) ∙ f)
@@ -148,7 +141,7 @@ module _ (rule : List ℕ) (m s u c : ℕ) (some : 0 < m) (follows : Follows s r
         → (k : ℕ) → k ≤ s
         → insertedAll (joined k (through rule m s u c v p (chosen m s p))) (passing N P) ≡ passing N (λ q. P q || (any k (λ j. extends m s u v (p-with j) q) && goes q))
     unfolding joined any
-    added-shares t P apart zero h = inserted-none (passing N P) ∙ passing-congr N _ _ (λ q l. sym (or-no (P q)))
+    added-shares t P apart zero h = inserted-none (passing N P) ∙ passing-congr N _ _ (λ q l. sym (or-false-right (P q) false refl))
     added-shares t P apart (suc k) h =
         insertedAll-append (joined k (through rule m s u c v p (chosen m s p))) (through rule m s u c v p (chosen m s p) k) (passing N P)
         ∙ ap (insertedAll (through rule m s u c v p (chosen m s p) k)) (added-shares t P apart k (omega arith))

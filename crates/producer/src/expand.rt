@@ -12,9 +12,11 @@ ghost use Rattle.design.specs.Limits.{greatestTerms};
 ghost use Rattle.producer.specs.Direct.{directList};
 ghost use Rattle.producer.specs.inside.Expanding.{ending, emitted, inserted, Grown, brought, ruleRows, ruleTables, Highest, Expands, Gathers};
 
-// The rows of the rule's tables, eight sets of shares a row, and how many sets they have together.
+// The rows of the rule's tables, eight sets of shares a row.
 const RULE_ROWS: usize = 7;
-pub const RULE_SETS: usize = 8 * RULE_ROWS;
+
+// The sets of three, of four and of five shares, together.
+const RULE_SETS: usize = 8 * RULE_ROWS;
 
 // The component to which a product goes, by the set of its chosen shares. Of all shares there is none.
 const RULES: [[u8; 8]; RULE_ROWS] = [

@@ -94,27 +94,27 @@ unfolding numberFrom
 number-last text i v h = rw (drop-of-length-le text h) refl
 
 -- the digits from `at` to i make the number v
-pub record Counted (text : List ℕ) (at i v : ℕ) : Type 0 where
+pub record DigitsRead (text : List ℕ) (at i v : ℕ) : Type 0 where
   pub from : at ≤ i
   pub within : i ≤ length text
   pub small : v ≤ 999
   pub place : i + decimals (drop i text) ≡ at + decimals (drop at text)
   pub number : numberFrom v (drop i text) ≡ numberFrom 0 (drop at text)
 
-pub number-start : (text : List ℕ) (at : ℕ) → at ≤ length text → Counted text at at 0
+pub number-start : (text : List ℕ) (at : ℕ) → at ≤ length text → DigitsRead text at at 0
 number-start text at h = record { from = omega arith; within = h; small = omega arith; place = refl; number = refl }
 
 pub as-number : (a b c d : ℕ) → a ≡ c → b ≡ d → _≡_ {A = Number} (record { value = a; next = b }) (record { value = c; next = d })
 as-number a b c d p q = rw p (rw q refl)
 
-module _ (text : List ℕ) (at i v : ℕ) (p : Counted text at i v) where
+module _ (text : List ℕ) (at i v : ℕ) (p : DigitsRead text at i v) where
   module _ (h : i < length text) (d : ℕ) (e : d ≡ digitOf (getD text i 0)) where
     pub number-stop : 10 ≤ d → _≡_ {A = Number} (record { value = v; next = i }) (numberAt text at)
     unfolding numberAt
     number-stop n =
         as-number v i _ _ (sym (number-none text i v d e h n) ∙ p .number) (let z = digits-none text i v d e h n in let q = p .place in omega arith)
 
-    pub number-more : d < 10 → (w : ℕ) → w ≡ withDigit v d → w ≤ 999 → Counted text at (i + 1) w
+    pub number-more : d < 10 → (w : ℕ) → w ≡ withDigit v d → w ≤ 999 → DigitsRead text at (i + 1) w
     number-more n w ew s =
         let one : decimals (drop i text) ≡ suc (decimals (drop (i + 1) text)) = rw (add-one i) (digits-one text i v d e h n) in
         let two : numberFrom v (drop i text) ≡ numberFrom w (drop (i + 1) text) = rw (add-one i) (rw ew (number-one text i v d e h n)) in

@@ -3,12 +3,12 @@ use Prim.Native.Nat.{_-_}
 use native.Mathlib.Omega.{arith}
 use borrow.Author.Needs.{needs}
 use lib.ListN.{length}
-use Rattle.text.proofs.Digits.{Counted, number-start, number-stop, number-more, number-end}
+use Rattle.text.proofs.Digits.{DigitsRead, number-start, number-stop, number-more, number-end}
 use Rattle.text.proofs.read_number.Statement.{statement}
 use Rattle.text.proofs.read_number.Tie as tie
 
 abbrev Inv-loop : tie.InvT-loop
-Inv-loop text at i₀ value₀ i value = Counted text at i value
+Inv-loop text at i₀ value₀ i value = DigitsRead text at i value
 
 abbrev μ-loop : tie.MeasureT-loop
 μ-loop text at i₀ value₀ i value = length text - i
