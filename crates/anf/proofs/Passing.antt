@@ -2,7 +2,7 @@
 -- So a table is the sum of its terms: at each bit, the list of the sets whose coefficient word has that bit.
 use mathlib.Core.Path.{_≡_, refl, ap, ap₂, _∙_}
 use mathlib.Core.Bool.{Bool, true, false}
-use mathlib.Core.List.{List, [], _∷_, _++_}
+use mathlib.Core.List.{List, [], _∷_, _++_, append-nil}
 use Prim.Native.Nat.{ℕ, zero, suc, _/_, _%_, _^_, _≤_, _<_, _+_}
 use native.Mathlib.Nat.{add-comm}
 use native.Mathlib.Omega.{arith}
@@ -18,6 +18,11 @@ use Rattle.anf.specs.NormalForm.{subsetSum}
 use Rattle.anf.specs.Terms.{valueAt, TermList, passing}
 use Rattle.anf.proofs.Transform.{subsetSum-twice, subsetSum-bit}
 use Rattle.anf.proofs.Terms.{Rising, rising-terms, valueAt-append}
+
+pub passing-none : (n : ℕ) → passing n (λ q. false) ≡ []
+unfolding passing
+passing-none zero = refl
+passing-none (suc n) = append-nil (passing n (λ q. false)) ∙ passing-none n
 
 -- ---- it rises
 

@@ -12,7 +12,7 @@ use native.Mathlib.Omega.{arith}
 use lib.Dec.{eqb}
 use lib.ListN.{length, getD}
 use lib.Bits.{bitAnd, bitXor, xor-zero-r, xor-lt, and-comm, and-self, xor-comm, xor-add-and}
-use borrow.Author.Tests.{eqb-true, eqb-false, ltb-true, lt-ltb}
+use borrow.Author.Tests.{eqb-true, eqb-false, ltb-true, lt-ltb, le-ltb}
 use Rattle.finite.specs.Tests.{pick}
 use Rattle.finite.specs.Sets.{subset}
 use Rattle.finite.proofs.Testing.{or-left, or-right, or-none}
@@ -48,6 +48,15 @@ next-rising lo hi (t ∷ l) a b c = (
   b 0 (omega arith),
   next-rising (suc t) hi l (λ h. c 0 (omega arith)) (λ j h. b (suc j) (omega arith)) (λ j h. c (suc j) (omega arith)),
 )
+
+-- the order of terms, by their numbers
+pub before-lt : (a b : ℕ) → a < b → before a b ≡ true
+unfolding before
+before-lt a b h = lt-ltb a b h
+
+pub before-not : (a b : ℕ) → b ≤ a → before a b ≡ false
+unfolding before
+before-not a b h = le-ltb a b h
 
 pub rising-terms : (n : ℕ) (l : List ℕ) → Rising 0 (2 ^ n) l → TermList n l
 unfolding before

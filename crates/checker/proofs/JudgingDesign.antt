@@ -28,9 +28,6 @@ use Rattle.checker.proofs.Repeating.{some-repeat, none-repeat, box-repe
 -- ---- `judge`
 
 module _ (f : List ℕ) (l : Layout) (a : l ≡ layoutOf f) where
-  pub read-well : l .reason ≡ 0 → Describes f l
-  read-well z = answers-described f l a z
-
   module _ (n : l .reason ≡ 0 → ⊥) where
     pub unread : (k : ℕ) (v : Verdict) → v ≡ answer (l .reason) (l .place) 0 → v ≡ verdict f k
     unfolding verdict judgedReading

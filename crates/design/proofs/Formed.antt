@@ -9,14 +9,14 @@ use lib.ListN.{length, getD, drop, length-drop}
 use lib.Seq.{getD-take, getD-drop, length-take-le}
 use lib.Dec.{eqb, lit<}
 use Rattle.finite.specs.Tests.{all, tabulate}
-use Rattle.finite.proofs.Testing.{and-left, and-right, all-at, tabulate-length, tabulate-at}
+use Rattle.finite.proofs.Testing.{and-left, and-right, all-at, tabulate-length, tabulate-at, pick-passed}
 use Rattle.anf.specs.Terms.{before}
 use Rattle.design.specs.Limits.{greatestTerms}
 use Rattle.design.specs.Bytes.{u16At, u32At}
 use Rattle.design.specs.Design.{TableFits, ListFits, StageFits, WellFormed}
 use Rattle.design.specs.Reading.{numberOf, kindDue, sizeDue, lengthDue, entryFits, previous, termFits, faultAt, means, reading, place, headOf, meaning, stageAt, tableAt, listAt}
 use Rattle.design.specs.declared.Head.{Head}
-use Rattle.design.proofs.Records.{entry-below, body-2, body-3, previous-more, fault-framed, body-none, pick-passed}
+use Rattle.design.proofs.Records.{entry-below, body-2, body-3, previous-more, fault-framed, body-none}
 use Rattle.design.proofs.Found.{fine, limits-file, stage-is, staged, number-low}
 use Rattle.design.proofs.Written.{list-size, last-two}
 

@@ -13,7 +13,7 @@ use lib.ListN.{length, getD, take, drop}
 use lib.Arith.{digits-lt, digits-mod, digits-div}
 use lib.Dec.{ltb, eqb, lit<}
 use Rattle.finite.specs.Tests.{pick}
-use Rattle.finite.proofs.Testing.{tabulate-at}
+use Rattle.finite.proofs.Testing.{tabulate-at, pick-missed}
 use Rattle.design.specs.Limits.{greatestWidth, greatestShares, greatestShareBits, greatestTerms}
 use Rattle.design.specs.Bytes.{u16At}
 use Rattle.design.specs.Design.{Design, noStage, stageOf, listOf}
@@ -22,7 +22,7 @@ use Rattle.design.specs.Reading.{lastOf, numberOf, kindDue, sizeDue, len
 use Rattle.design.specs.declared.Head.{Head}
 use Rattle.design.specs.declared.Layout.{Layout}
 use Rattle.design.proofs.Limits.{Bounds, bounds}
-use Rattle.design.proofs.Records.{Framed, pick-missed, frame-none, fault-framed}
+use Rattle.design.proofs.Records.{Framed, frame-none, fault-framed}
 use Rattle.design.proofs.Walking.{head-body, place-next}
 
 -- a walk that ends in a design met no fault

@@ -13,7 +13,7 @@ use native.Mathlib.Nat.{not-suc-le-zero}
 use native.Mathlib.Numerals.{add-one}
 use Rattle.finite.specs.Tests.{pick, all}
 use Rattle.finite.specs.Faults.{firstFault}
-use Rattle.finite.proofs.Testing.{all-at, all-not, clash, true-or-false, below, and-intro, or-right, and-right, and-left}
+use Rattle.finite.proofs.Testing.{all-at, all-not, clash, true-or-false, below, and-intro, or-right, and-right, and-left, pick-passed, pick-missed}
 use Rattle.finite.proofs.Faults.{fault-cases}
 use Rattle.anf.specs.Terms.{before}
 use Rattle.design.specs.Limits.{greatestTerms, broken}
@@ -23,7 +23,7 @@ use Rattle.design.specs.Refused.{WithinLimits, LengthFits, TermFits, Rec
 use Rattle.design.specs.Refused.{RefusedFor, head-cut, kind-wrong, length-wrong, body-cut, limit-broken, entry-high, term-wrong, bytes-follow}
 use Rattle.design.specs.declared.Head.{Head}
 use Rattle.design.proofs.Limits.{bounds}
-use Rattle.design.proofs.Records.{bodyFault, Framed, body-1, body-2, body-3, body-none, fault-framed, pick-passed, pick-missed, previous-more, entry-below, entry-not, body-4}
+use Rattle.design.proofs.Records.{bodyFault, Framed, body-1, body-2, body-3, body-none, fault-framed, previous-more, entry-below, entry-not, body-4}
 use Rattle.design.proofs.Written.{list-size}
 use Rattle.design.proofs.Walking.{place-next}
 

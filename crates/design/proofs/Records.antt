@@ -2,7 +2,7 @@
 use Prim.Native.Nat.{ℕ, zero, suc, _+_, _*_, _-_, _/_, _%_, _^_, _≤_, _<_}
 use mathlib.Core.Path.{_≡_, refl, _∙_, sym}
 use mathlib.Core.List.{List}
-use mathlib.Core.Bool.{Bool, true, false, _||_, not}
+use mathlib.Core.Bool.{Bool, true, false, _||_}
 use native.Mathlib.Omega.{arith}
 use native.Mathlib.Numerals.{add-one}
 use borrow.Author.Tests.{ltb-false, eqb-true, lt-ltb, le-ltb, ne-eqb, not-false, ltb-true}
@@ -11,7 +11,7 @@ use lib.Dec.{eqb, lit<}
 use mathlib.Core.Logic.{⊎-elim, _⊎_, inl, inr}
 use Rattle.finite.specs.Tests.{pick, all}
 use Rattle.finite.specs.Faults.{firstFault}
-use Rattle.finite.proofs.Testing.{and-false-right}
+use Rattle.finite.proofs.Testing.{and-false-right, pick-twice, pick-not}
 use Rattle.finite.proofs.Faults.{no-fault, fault-front, fault-past}
 use Rattle.anf.specs.Terms.{before}
 use Rattle.design.specs.Bytes.{byte, u16At, u32At}
@@ -80,23 +80,6 @@ framed f at kind size e =
 -- the first fault of a body of n bytes from start, or 0
 unfoldable pub bodyFault : List ℕ → Head → ℕ → ℕ → ℕ → ℕ
 bodyFault f h kind start n = firstFault (bodyFaults f h kind start n) 0
-
-pick-twice : (b : Bool) (x y z : ℕ) → pick b (pick b x y) z ≡ pick b x z
-pick-twice true x y z = refl
-pick-twice false x y z = refl
-
-pick-not : (b : Bool) (x y : ℕ) → pick (not b) x y ≡ pick b y x
-pick-not true x y = refl
-pick-not false x y = refl
-
--- a test that a record without fault passed
-pub pick-passed : (b : Bool) (r : ℕ) → 0 < r → pick b 0 r ≡ 0 → b ≡ true
-pick-passed true r p e = refl
-pick-passed false r p e = absurd (omega arith)
-
-pub pick-missed : (b : Bool) (r : ℕ) → 0 < r → pick b r 0 ≡ 0 → b ≡ false
-pick-missed true r p e = absurd (omega arith)
-pick-missed false r p e = refl
 
 module _ (f : List ℕ) (h : Head) (kind start n : ℕ) where
   pub body-1 : kind ≡ 1 → bodyFault f h kind start n ≡ pick (broken (h .m) (h .s) (h .k)) 4 0

@@ -1,19 +1,14 @@
 -- What printing a design asks for, over plain values: f is the file, y what was read of it, i a list of a stage.
 -- Assumes nothing.
-use mathlib.Core.Path.{_≡_}
 use mathlib.Core.List.{List}
 use Prim.Native.Nat.{ℕ, _+_, _*_, _/_, _≤_, _<_}
 use native.Mathlib.Nat.{div-le-self}
 use native.Mathlib.Omega.{arith}
 use mir.Syntax.{w64}
 use mir.Val.{Fits}
-use Rattle.design.specs.Layout.{layoutOf}
 use Rattle.design.specs.inside.Described.{Describes}
 use Rattle.design.specs.declared.Layout.{Layout}
-use Rattle.design.proofs.Answered.{described, answers-described}
-
-pub read-well : (f : List ℕ) (y : Layout) → y ≡ layoutOf f → y .reason ≡ 0 → Describes f y
-read-well f y a z = answers-described f y a z
+use Rattle.design.proofs.Answered.{described}
 
 -- the share of a variable
 pub share-low : (i m bits : ℕ) → i < bits → bits ≤ 32 → i / m ≤ 32

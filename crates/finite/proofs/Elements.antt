@@ -8,11 +8,11 @@ use native.Mathlib.Omega.{arith}
 use lib.Arith.{lt-one}
 use lib.Pow.{pow-pos, field, high, low, split, mod-mod-pow, pow-lt, pow-add, shl-shr}
 use lib.Dec.{eqb}
-use lib.Bits.{bitAnd, bitXor, and-mod, and-block, bitOr, or-shr, or-mod}
+use lib.Bits.{bitAnd, bitXor, and-mod, and-block, bitOr, or-shr, or-mod, xor-mod, xor-self, xor-zero-r}
 use lib.Count.{ones, ones-cat}
 use borrow.Author.Tests.{eqb-true, eq-eqb}
 use native.Mathlib.Decide.{decLt}
-use Rattle.finite.specs.Tests.{implies, all, any, bit, count, total}
+use Rattle.finite.specs.Tests.{implies, all, any, bit, count, total, pick}
 use Rattle.finite.specs.Sets.{subset, has}
 use Rattle.finite.proofs.Testing.{bool-ext, true-or-false, and-intro, and-left, and-right, implies-at, implies-intro, all-at, all-intro, any-none, below, or-right, or-false-right}
 use Rattle.finite.proofs.Xor.{bit-cases, digits-eq, xor-bit, and-bit}
@@ -242,3 +242,27 @@ ones-count (suc n) u l =
     low-count =
         Rattle.finite.proofs.Counting.count-congr n (has (u % 2 ^ n)) (has u)
         (λ i k. sym (has-low n (u / 2 ^ n) (u % 2 ^ n) i (mod-lt u (pow-pos n)) k) ∙ ap (λ (x : ℕ). has x i) (split u n))
+
+-- ---- the lowest and the highest element
+
+pub subset-top : (n i x : ℕ) → i < 2 ^ n → subset (2 ^ n + i) x ≡ (subset 1 (x / 2 ^ n) && subset i x)
+subset-top n i x l = let e : 2 ^ n + i ≡ 1 * 2 ^ n + i = omega arith in ap (λ (y : ℕ). subset y x) e ∙ subset-split n 1 i x l
+
+subset-one : (x : ℕ) → subset 1 x ≡ subset 1 (x % 2)
+subset-one x = sym (subset-low 1 1 x (omega arith))
+
+-- the lowest bit of a sum
+pub subset-one-xor : (x y c : ℕ) → bitXor (pick (subset 1 x) c 0) (pick (subset 1 y) c 0) ≡ pick (subset 1 (bitXor x y)) c 0
+subset-one-xor x y c =
+    ap₂ (λ (a b : Bool). bitXor (pick a c 0) (pick b c 0)) (subset-one x) (subset-one y)
+    ∙ low-bits (x % 2) (y % 2) (mod-lt x (omega arith)) (mod-lt y (omega arith))
+    ∙ sym (ap (λ (b : Bool). pick b c 0) (subset-one (bitXor x y) ∙ ap (subset 1) (xor-mod x y 1)))
+  where
+    low-bits : (x y : ℕ) → x < 2 → y < 2 → bitXor (pick (subset 1 x) c 0) (pick (subset 1 y) c 0) ≡ pick (subset 1 (bitXor x y)) c 0
+    low-bits zero zero h k = unfold subset in refl
+    low-bits zero (suc zero) h k = unfold subset in refl
+    low-bits (suc zero) zero h k = unfold subset in xor-zero-r c
+    low-bits (suc zero) (suc zero) h k = unfold subset in xor-self c
+    low-bits zero (suc (suc y)) h k = absurd (omega arith)
+    low-bits (suc zero) (suc (suc y)) h k = absurd (omega arith)
+    low-bits (suc (suc x)) y h k = absurd (omega arith)

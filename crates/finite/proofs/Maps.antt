@@ -9,6 +9,10 @@ use borrow.Author.Tests.{eqb-true, eq-eqb}
 use Rattle.finite.specs.Maps.{Injective, metBefore, repeats}
 use Rattle.finite.proofs.Testing.{any-at, any-some, not-true-false, clash}
 
+-- one injective map after another
+pub injective-then : (N : ℕ) (h h′ : ℕ → ℕ) → ((x : ℕ) → x < N → h x < N) → Injective N h → Injective N h′ → Injective N (λ x. h′ (h x))
+injective-then N h h′ into i i′ a b la lb e = i a b la lb (i′ (h a) (h b) (into a la) (into b lb) e)
+
 module _ (n : ℕ) (f : ℕ → ℕ) where
   -- equal values at two places repeat
   pub equal-repeats : (i j : ℕ) → j < i → i < n → f j ≡ f i → repeats n f ≡ true

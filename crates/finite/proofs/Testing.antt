@@ -2,7 +2,7 @@
 -- Assumes nothing.
 use mathlib.Core.Path.{_≡_, refl, sym, ap, ap₂, _∙_}
 use mathlib.Core.Logic.{_⊎_, inl, inr, ⊎-elim}
-use mathlib.Core.Bool.{Bool, true, false, _&&_, _||_, true≢false, false≢true}
+use mathlib.Core.Bool.{Bool, true, false, _&&_, _||_, true≢false, false≢true, not}
 use mathlib.Core.List.{List, [], _∷_, _++_, append-assoc}
 use Prim.Native.Nat.{ℕ, zero, suc, _+_, _≤_, _<_}
 use native.Mathlib.Nat.{le-of-suc-le-suc, not-suc-le-zero, le-refl, le-step, eq-or-lt-of-le}
@@ -88,6 +88,23 @@ pick-true false x y e = absurd (false≢true e)
 pub pick-false : {A : Type 0} (b : Bool) (x y : A) → b ≡ false → pick b x y ≡ y
 pick-false true x y e = absurd (true≢false e)
 pick-false false x y e = refl
+
+pub pick-twice : {A : Type 0} (b : Bool) (x y z : A) → pick b (pick b x y) z ≡ pick b x z
+pick-twice true x y z = refl
+pick-twice false x y z = refl
+
+pub pick-not : {A : Type 0} (b : Bool) (x y : A) → pick (not b) x y ≡ pick b y x
+pick-not true x y = refl
+pick-not false x y = refl
+
+-- where the answer is 0, the test is known by the number that it did not give
+pub pick-passed : (b : Bool) (r : ℕ) → 0 < r → pick b 0 r ≡ 0 → b ≡ true
+pick-passed true r p e = refl
+pick-passed false r p e = absurd (omega arith)
+
+pub pick-missed : (b : Bool) (r : ℕ) → 0 < r → pick b r 0 ≡ 0 → b ≡ false
+pick-missed true r p e = absurd (omega arith)
+pick-missed false r p e = refl
 
 -- ---- all and any. i < suc n is n itself or below n.
 

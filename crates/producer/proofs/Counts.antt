@@ -18,7 +18,8 @@ use Rattle.finite.proofs.Subsets.{Top, low, top, top-cases, xor-top-low, subset
 use Rattle.finite.proofs.Elements.{ones-count, some-element, ones-top}
 use Rattle.producer.specs.Direct.{isProduct}
 use Rattle.producer.proofs.Products.{product-none}
-use Rattle.producer.proofs.Expansion.{product-blocks, pow-blocks}
+use Rattle.producer.proofs.Expansion.{product-blocks}
+use Rattle.threshold.proofs.Sharing.{pow-step}
 
 -- ---- the subsets of u
 
@@ -88,7 +89,7 @@ products-count m zero u l =
         none zero h = absurd (omega arith)
         none (suc d) h = sym (pow-suc 0 d ∙ mul-zero (0 ^ d))
 products-count m (suc s) u l =
-    ap (λ (x : ℕ). count x (isProduct m (suc s) u)) (pow-blocks m s)
+    ap (λ (x : ℕ). count x (isProduct m (suc s) u)) (pow-step m s ∙ mul-comm (2 ^ (m * s)) (2 ^ m))
     ∙ total-blocks (2 ^ m) (2 ^ (m * s)) (λ p. bit (isProduct m (suc s) u p))
     ∙ total-congr (2 ^ m) _ (λ t. pick (subset t u) (s ^ ones (bitXor u t)) 0)
     (λ t lt. total-congr (2 ^ (m * s)) _ (λ r. bit (subset t u && isProduct m s (bitXor u t) r)) (λ r lr. ap bit (product-blocks m s u t r lt lr))

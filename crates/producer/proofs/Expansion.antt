@@ -2,13 +2,11 @@
 -- those of the sums of shares multiplied out. A term of d variables has s^d products.
 use mathlib.Core.Path.{_≡_, refl, sym, ap, ap₂, _∙_}
 use mathlib.Core.Bool.{Bool, true, false, _&&_}
-use Prim.Native.Nat.{ℕ, zero, suc, _+_, _*_, _/_, _%_, _^_, _<_}
-use native.Mathlib.Nat.{mul-suc, add-comm, mod-lt, mul-zero}
-use native.Mathlib.Omega.{arith}
+use Prim.Native.Nat.{ℕ, zero, suc, _+_, _*_, _/_, _^_, _<_}
+use native.Mathlib.Nat.{mul-zero, mul-comm}
 use lib.Arith.{lt-one}
-use lib.Pow.{pow-add}
 use lib.Dec.{eqb}
-use lib.Bits.{bitXor, xor-shr, xor-mod, xor-self, and-zero-r, xor-lt, xor-zero-r}
+use lib.Bits.{bitXor, xor-shr, and-zero-r, xor-lt}
 use borrow.Author.Tests.{eqb-true, eq-eqb}
 use Rattle.finite.specs.Tests.{pick}
 use Rattle.finite.specs.Sums.{xorBelow}
@@ -16,11 +14,11 @@ use Rattle.finite.specs.Sets.{subset}
 use Rattle.finite.proofs.Testing.{bool-ext}
 use Rattle.finite.proofs.Sums.{xorBelow-ext, pick-both, xorBelow-blocks, pick-swap, xorBelow-pick}
 use Rattle.finite.proofs.Subsets.{Top, low, top, top-cases, xor-top-low, subset-eq, eq-subset, subset-empty, xor-top-top}
-use Rattle.finite.proofs.Elements.{subset-low, subset-split}
+use Rattle.finite.proofs.Elements.{subset-low, subset-split, subset-top, subset-one-xor}
 use Rattle.anf.specs.NormalForm.{subsetSum}
 use Rattle.anf.proofs.Transform.{subsetSum-ext, subsetSum-none, subsetSum-low, subsetSum-top, subsetSum-zero}
 use Rattle.threshold.specs.Sharing.{share, sum}
-use Rattle.threshold.proofs.Sharing.{share-top}
+use Rattle.threshold.proofs.Sharing.{share-top, pow-step}
 use Rattle.producer.specs.Direct.{isProduct}
 use Rattle.producer.proofs.Products.{product-more, product-low, product-none}
 
@@ -33,28 +31,6 @@ subsetSum-pick n u false f = subsetSum-none n u (λ t. 0) (λ v l. refl)
 -- t at a, and what of u is not in t at b
 abbrev both : ℕ → ℕ → ℕ → ℕ → ℕ
 both u a b t = pick (subset t a) (pick (subset (bitXor u t) b) 1 0) 0
-
-subset-top : (n i x : ℕ) → i < 2 ^ n → subset (2 ^ n + i) x ≡ (subset 1 (x / 2 ^ n) && subset i x)
-subset-top n i x l = let e : 2 ^ n + i ≡ 1 * 2 ^ n + i = omega arith in ap (λ (y : ℕ). subset y x) e ∙ subset-split n 1 i x l
-
-subset-one : (x : ℕ) → subset 1 x ≡ subset 1 (x % 2)
-subset-one x = sym (subset-low 1 1 x (omega arith))
-
--- the lowest bit of a sum
-subset-one-xor : (x y c : ℕ) → bitXor (pick (subset 1 x) c 0) (pick (subset 1 y) c 0) ≡ pick (subset 1 (bitXor x y)) c 0
-subset-one-xor x y c =
-    ap₂ (λ (a b : Bool). bitXor (pick a c 0) (pick b c 0)) (subset-one x) (subset-one y)
-    ∙ low-bits (x % 2) (y % 2) (mod-lt x (omega arith)) (mod-lt y (omega arith))
-    ∙ sym (ap (λ (b : Bool). pick b c 0) (subset-one (bitXor x y) ∙ ap (subset 1) (xor-mod x y 1)))
-  where
-    low-bits : (x y : ℕ) → x < 2 → y < 2 → bitXor (pick (subset 1 x) c 0) (pick (subset 1 y) c 0) ≡ pick (subset 1 (bitXor x y)) c 0
-    low-bits zero zero h k = unfold subset in refl
-    low-bits zero (suc zero) h k = unfold subset in refl
-    low-bits (suc zero) zero h k = unfold subset in xor-zero-r c
-    low-bits (suc zero) (suc zero) h k = unfold subset in xor-self c
-    low-bits zero (suc (suc y)) h k = absurd (omega arith)
-    low-bits (suc zero) (suc (suc y)) h k = absurd (omega arith)
-    low-bits (suc (suc x)) y h k = absurd (omega arith)
 
 pub split-sum : (n u a b : ℕ) → u < 2 ^ n → subsetSum n (both u a b) u ≡ pick (subset u (bitXor b a)) 1 0
 split-sum zero u a b l = rw (lt-one l) (subsetSum-zero (both 0 a b) ∙ rw (subset-empty a, subset-empty b, subset-empty (bitXor b a)) refl)
@@ -83,9 +59,6 @@ split-sum (suc n) u a b l = go (split-sum n) (top-cases n u l)
 
 -- ---- the sum over all numbers, block by block
 
-pub pow-blocks : (m s : ℕ) → 2 ^ (m * suc s) ≡ 2 ^ m * 2 ^ (m * s)
-pow-blocks m s = ap (λ (x : ℕ). 2 ^ x) (mul-suc m s ∙ add-comm (m * s) m) ∙ pow-add 2 m (m * s)
-
 pub product-blocks : (m s u t r : ℕ) → t < 2 ^ m → r < 2 ^ (m * s)
     → isProduct m (suc s) u (t * 2 ^ (m * s) + r) ≡ (subset t u && isProduct m s (bitXor u t) r)
 product-blocks m s u t r lt lr =
@@ -106,7 +79,7 @@ expansion m zero u σ l =
     subset-of-none u =
         bool-ext _ _ (λ e. eq-eqb u 0 (sym (subset-eq u 0 e) ∙ and-zero-r u)) (λ e. eq-subset u 0 (and-zero-r u ∙ sym (eqb-true u 0 e)))
 expansion m (suc s) u σ l =
-    ap (λ (x : ℕ). xorBelow x (λ p. pick (isProduct m (suc s) u p) (pick (subset p σ) 1 0) 0)) (pow-blocks m s)
+    ap (λ (x : ℕ). xorBelow x (λ p. pick (isProduct m (suc s) u p) (pick (subset p σ) 1 0) 0)) (pow-step m s ∙ mul-comm (2 ^ (m * s)) (2 ^ m))
     ∙ xorBelow-blocks (2 ^ m) (2 ^ (m * s)) (λ p. pick (isProduct m (suc s) u p) (pick (subset p σ) 1 0) 0)
     ∙ xorBelow-ext (2 ^ m) _ (λ t. pick (subset t u) (both u (share m s σ) (xorBelow s (λ j. share m j σ)) t) 0)
     (λ t lt. xorBelow-ext (2 ^ (m * s)) _ (λ r. pick (subset t u) (pick (subset t (share m s σ)) (pick (isProduct m s (bitXor u t) r) (pick (subset r σ) 1 0) 0) 0) 0)

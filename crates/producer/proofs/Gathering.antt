@@ -13,15 +13,15 @@ use lib.Dec.{eqb, leb}
 use lib.Bits.{bitOr}
 use lib.ListN.{length, getD, set, take, drop}
 use lib.Seq.{take-suc, take-suc-set, take-all}
-use borrow.Author.Tests.{eqb-true, eq-eqb, ne-eqb, lt-ltb, le-ltb, le-leb}
+use borrow.Author.Tests.{eqb-true, eq-eqb, ne-eqb, le-leb}
 use Rattle.finite.specs.Tests.{pick, implies, all, any, first, tabulate}
 use Rattle.finite.specs.Sets.{has}
 use Rattle.finite.proofs.Testing.{true-or-false, not-true-false, clash, below, pick-true, pick-false, and-intro, and-left, and-right}
 use Rattle.finite.proofs.Testing.{or-none, or-false-right, any-at, any-some, all-at, implies-at, tabulate-at}
 use Rattle.finite.proofs.Elements.{has-none}
 use Rattle.anf.specs.Terms.{before, passing}
-use Rattle.anf.proofs.Terms.{Rising}
-use Rattle.anf.proofs.Passing.{passing-rising, passing-congr}
+use Rattle.anf.proofs.Terms.{Rising, before-lt, before-not}
+use Rattle.anf.proofs.Passing.{passing-rising, passing-congr, passing-none}
 use Rattle.design.specs.Limits.{greatestTerms}
 use Rattle.design.proofs.Limits.{bounds}
 use Rattle.producer.specs.Direct.{isProduct, chosen, componentFor, stands, directList}
@@ -33,14 +33,6 @@ use Rattle.producer.proofs.Emitting.{joined-within, insertedAll-append,
 use Rattle.producer.proofs.Choosing.{chosen-none, chosen-with, extends, extends-none, extends-all, extends-skip, extends-each, extends-apart, Clean, clean-with, with-lt}
 
 -- ---- a term in its place
-
-before-lt : (a b : ℕ) → a < b → before a b ≡ true
-unfolding before
-before-lt a b h = lt-ltb a b h
-
-before-not : (a b : ℕ) → b ≤ a → before a b ≡ false
-unfolding before
-before-not a b h = le-ltb a b h
 
 -- behind all
 inserted-last : (lo n : ℕ) (l : List ℕ) → Rising lo n l → inserted n l ≡ l ++ (n ∷ [])
@@ -82,11 +74,6 @@ inserted-passing (suc n) t P l f =
     at : (b : Bool) → t < n → inserted t (passing n P ++ pick b (n ∷ []) []) ≡ inserted t (passing n P) ++ pick b (n ∷ []) []
     at true k = inserted-first 0 n t (passing n P) (passing-rising n P) k
     at false k = ap (inserted t) (append-nil (passing n P)) ∙ sym (append-nil (inserted t (passing n P)))
-
-pub passing-none : (n : ℕ) → passing n (λ q. false) ≡ []
-unfolding passing
-passing-none zero = refl
-passing-none (suc n) = append-nil (passing n (λ q. false)) ∙ passing-none n
 
 -- ---- the products of a term
 

@@ -112,6 +112,3 @@ carries-then N M sum h g h′ g′ c c′ =
       g-into = λ x l. c′ .g-into (g x) (c .g-into x l);
       g-inj = λ i k li lk e. c .g-inj i k li lk (c′ .g-inj (g i) (g k) (c .g-into i li) (c .g-into k lk) e);
     }
-
-pub injective-then : (N : ℕ) (h h′ : ℕ → ℕ) → ((σ : ℕ) → σ < N → h σ < N) → Injective N h → Injective N h′ → Injective N (λ σ. h′ (h σ))
-injective-then N h h′ into i i′ a b la lb e = i a b la lb (i′ (h a) (h b) (into a la) (into b lb) e)

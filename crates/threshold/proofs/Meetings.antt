@@ -20,8 +20,9 @@ use Rattle.threshold.specs.Sharing.{sum, setting, putShare}
 use Rattle.threshold.specs.Stages.{output, component, Correct, Ignores, Uniform}
 use Rattle.threshold.specs.Chain.{chained, handed, meetings}
 use Rattle.threshold.proofs.Sharing.{sum-lt, setting-lt, one-sharing}
-use Rattle.threshold.proofs.Carried.{Carries, count-carried, carries-none, carries-then, injective-then}
+use Rattle.threshold.proofs.Carried.{Carries, count-carried, carries-none, carries-then}
 use Rattle.threshold.proofs.Stages.{stage-carries, stage-uniform→injective, of-setting}
+use Rattle.finite.proofs.Maps.{injective-then}
 
 -- a stage that carries sharings one to one
 pub record Bijective (w s : ℕ) (g : Stage) : Type 0 where

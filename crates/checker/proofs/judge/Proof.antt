@@ -1,6 +1,7 @@
 -- `judge` meets its contract: each way out is a law of `JudgingDesign`, whose premises `search` finds among what is known there.
 use borrow.Author.Needs.{needs}
-use Rattle.checker.proofs.JudgingDesign.{read-well, unread, unread-after, design-answers, design-after}
+use Rattle.design.proofs.Answered.{answers-described}
+use Rattle.checker.proofs.JudgingDesign.{unread, unread-after, design-answers, design-after}
 use Rattle.checker.proofs.judge.Statement.{statement}
 use Rattle.checker.proofs.judge.Tie as tie
 
@@ -11,6 +12,6 @@ judge-spec =
     (λ c κs. search needs)
     (λ c κs. search needs)
     (λ c. search (unread, unread-after))
-    (λ c κs. search read-well)
+    (λ c κs. search answers-described)
     (λ c. search needs)
     (λ c. search (design-answers, design-after)))

@@ -1,7 +1,7 @@
 -- `explain::main` ends, and prints a design only where the file reads.
 -- Assumes nothing.
 use borrow.Author.Needs.{needs}
-use Rattle.explain.proofs.Printing.{read-well}
+use Rattle.design.proofs.Answered.{answers-described}
 use Rattle.explain.proofs.main.Statement.{statement}
 use Rattle.explain.proofs.main.Tie as tie
 
@@ -39,7 +39,7 @@ read-requires : tie.Need-read-requires
 read-requires c κs = search needs
 
 print-design-requires : tie.Need-print-design-requires
-print-design-requires c κs = search read-well
+print-design-requires c κs = search answers-described
 
 slice-aggregate-judge : tie.Need-slice-aggregate-judge
 slice-aggregate-judge c = search needs
