@@ -16,6 +16,10 @@ Inv-loop file starts first table m s bits tries x₀ x = (x ≤ tries) × (agree
 abbrev μ-loop : tie.MeasureT-loop
 μ-loop file starts first table m s bits tries x₀ x = tries - x
 
+-- A need with a name is checked by itself: the log of a wrong program shows it, whatever need before it fails.
+returns-2 : tie.Need-returns-2 Inv-loop μ-loop
+returns-2 c = search agree-end
+
 pub all-agree-spec : {M : Type 1} → statement M
 all-agree-spec =
     tie.close
@@ -31,4 +35,4 @@ all-agree-spec =
     (λ c. search needs)
     (λ c. search needs)
     (λ c. search (arith, agree-more))
-    (λ c. search agree-end))
+    returns-2)

@@ -8,6 +8,10 @@ use Rattle.checker.proofs.StageFacts.{some-bits, enough-bits, bits-fit,
 use Rattle.checker.proofs.stages.meets_twice.Statement.{statement}
 use Rattle.checker.proofs.stages.meets_twice.Tie as tie
 
+-- A need with a name is checked by itself: the log of a wrong program shows it, whatever need before it fails.
+returns : tie.Need-returns
+returns c = (search stage-meets, search zeroed-again)
+
 pub meets-twice-spec : {M : Type 1} → statement M
 meets-twice-spec =
     tie.close
@@ -19,4 +23,4 @@ meets-twice-spec =
     (λ c κs. search (enough-bits, lists-stand, none-marked))
     (λ c κs. search (arith, room-kept))
     (λ c. search needs)
-    (λ c. search (stage-meets, zeroed-again)))
+    returns)

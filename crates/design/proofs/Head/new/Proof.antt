@@ -3,6 +3,10 @@ use Rattle.design.proofs.Heading.{no-width, too-wide, few-shares, many-
 use Rattle.design.proofs.Head.new.Statement.{statement}
 use Rattle.design.proofs.Head.new.Tie as tie
 
+-- A need with a name is checked by itself: the log of a wrong program shows it, whatever need before it fails.
+returns-8 : tie.Need-returns-8
+returns-8 c = search within
+
 pub new-spec : {M : Type 1} → statement M
 new-spec =
     tie.close
@@ -15,4 +19,4 @@ new-spec =
     (λ c. search many-bits)
     (λ c. search no-stage)
     (λ c. search many-stages)
-    (λ c. search within))
+    returns-8)

@@ -7,6 +7,10 @@ use Rattle.design.proofs.Taking.{list-fits, head-before, length-there, 
 use Rattle.design.proofs.parts.list.Statement.{statement}
 use Rattle.design.proofs.parts.list.Tie as tie
 
+-- A need with a name is checked by itself: the log of a wrong program shows it, whatever need before it fails.
+returns : tie.Need-returns
+returns c = search list-is
+
 pub list-spec : {M : Type 1} → statement M
 list-spec =
     tie.close
@@ -20,4 +24,4 @@ list-spec =
     (λ c. search needs)
     (λ c. search needs)
     (λ c. search list-there)
-    (λ c. search list-is))
+    returns)
