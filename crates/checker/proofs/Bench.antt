@@ -8,8 +8,9 @@ use Rattle.finite.specs.Sets.{subset}
 use Rattle.finite.specs.Maps.{repeats, metBefore}
 use Rattle.finite.specs.Faults.{firstFault}
 use Rattle.anf.specs.Terms.{valueAt}
-use Rattle.design.specs.Encode.{join, aRecord, stageBytes, encode}
-use Rattle.design.specs.Bytes.{termBytes}
+use Rattle.records.specs.Records.{join, aRecord}
+use Rattle.design.specs.Encode.{stageBytes, encode}
+use Rattle.records.specs.Bytes.{termBytes}
 use Rattle.design.proofs.Bench.{computing}
 use Rattle.threshold.specs.Sharing.{share, sum, setting, putShare}
 use Rattle.threshold.specs.Stages.{output, correct, readsOwn, nonComplete, sharingsTo, uniform}

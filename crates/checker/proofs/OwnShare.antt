@@ -13,14 +13,14 @@ use Rattle.finite.proofs.Testing.{any-at, any-none, any-none-more, first-found,
 use Rattle.anf.specs.Terms.{TermList, named, names}
 use Rattle.anf.proofs.Terms.{names-at, names-none}
 use Rattle.design.specs.Limits.{greatestShares, greatestWidth}
-use Rattle.design.specs.Bytes.{termBytes}
+use Rattle.records.specs.Bytes.{termBytes}
 use Rattle.design.specs.Design.{stageOf, listOf}
 use Rattle.design.specs.Reading.{meaning}
 use Rattle.design.specs.inside.Described.{Describes}
 use Rattle.design.specs.declared.Layout.{Layout}
-use Rattle.design.specs.inside.StageLists.{terms}
+use Rattle.records.specs.inside.Terms.{terms}
 use Rattle.design.proofs.Answered.{described}
-use Rattle.design.proofs.TermBytes.{terms-of-bytes}
+use Rattle.records.proofs.TermBytes.{terms-of-bytes}
 use Rattle.threshold.specs.inside.Variables.{variables}
 use Rattle.threshold.specs.Stages.{readsOwn}
 use Rattle.threshold.proofs.Sharing.{place-lt}

@@ -103,10 +103,10 @@ pub fn offending(file: &[u8], layout: Layout, t: usize) -> usize
         let mut b: usize = 0;
         while b < m {
             let list = design::list(file, layout, t, m * j + b);
-            let n = design::count(list);
+            let n = records::count(list);
             let mut i: usize = 0;
             while i < n {
-                if names_one(design::term(list, i), own) {
+                if names_one(records::term(list, i), own) {
                     found = j;
                     break 'components;
                 }

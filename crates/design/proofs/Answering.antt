@@ -11,7 +11,7 @@ use mir.Syntax.{w64}
 use mir.Val.{Fits}
 use Rattle.finite.specs.Tests.{pick, tabulate}
 use Rattle.finite.proofs.Testing.{tabulate-more}
-use Rattle.design.specs.Bytes.{byte, u16At}
+use Rattle.records.specs.Bytes.{byte, u16At}
 use Rattle.design.specs.Layout.{noStarts, startOf, startsTo, refusedLayout, layoutOf}
 use Rattle.design.specs.inside.Described.{Limits}
 use Rattle.design.specs.Limits.{greatestRecords, broken, checked}

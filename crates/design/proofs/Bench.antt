@@ -6,8 +6,9 @@ use Rattle.finite.specs.Tests.{all, tabulate}
 use Rattle.finite.specs.Faults.{firstFault}
 use Rattle.anf.specs.Terms.{before}
 use Rattle.design.specs.Limits.{broken, checked, headAnswer}
-use Rattle.design.specs.Bytes.{u16At, u32At, termBytes}
-use Rattle.design.specs.Encode.{join, aRecord, stageBytes, encode}
+use Rattle.records.specs.Bytes.{u16At, u32At, termBytes}
+use Rattle.records.specs.Records.{join, aRecord}
+use Rattle.design.specs.Encode.{stageBytes, encode}
 use Rattle.design.specs.Reading.{lastOf, numberOf, kindDue, sizeDue, lengthDue, entryFits, previous, termFits, faultAt, place, tableAt, listAt, stageAt, meaning, walk, reading}
 use Rattle.design.specs.Bench.{fileD, designD, headRows, rows}
 

@@ -8,9 +8,9 @@ use Rattle.finite.specs.Tests.{tabulate}
 use Rattle.finite.proofs.Testing.{all-intro}
 use Rattle.anf.specs.Terms.{before}
 use Rattle.design.specs.Limits.{greatestTerms}
-use Rattle.design.specs.Bytes.{byte, u16At, u32At, two, four, termBytes}
+use Rattle.records.specs.Bytes.{byte, u16At, u32At, two, four, termBytes}
 use Rattle.design.specs.Design.{Design, Stage, noStage, stageOf, listOf, TableFits, ListFits, WellFormed}
-use Rattle.design.specs.Encode.{join, aRecord}
+use Rattle.records.specs.Records.{join, aRecord}
 use Rattle.design.specs.Reading.{lastOf, numberOf, kindDue, sizeDue, lengthDue, entryFits, previous, termFits, faultAt}
 use Rattle.design.specs.inside.Framing.{frameFault}
 use Rattle.design.specs.Reading.{means, reading, walk, place, headOf, meaning, stageAt, tableAt, listAt}
@@ -18,9 +18,10 @@ use Rattle.design.specs.declared.Head.{Head}
 use Rattle.design.proofs.Flat.{headFor, stageBody, bodyOf, recordOf, flat}
 use Rattle.design.proofs.Records.{bodyFault, body-1, body-2, body-3, body-4, fault-body, entry-fits, term-fits}
 use Rattle.design.proofs.Walking.{place-next}
-use Rattle.design.proofs.TermBytes.{little-four, length-termBytes}
+use Rattle.records.proofs.TermBytes.{little-four, length-termBytes}
 use Rattle.design.proofs.Found.{staged, record-cases, number-low}
-use Rattle.design.proofs.Joined.{tabulate-of, join-snoc, join-at}
+use Rattle.finite.proofs.Testing.{tabulate-of}
+use Rattle.records.proofs.Joined.{join-snoc, join-at}
 use Rattle.design.proofs.Written.{body-stage, body-end, kind-end, last-two}
 use native.Mathlib.Omega.{arith}
 use native.Mathlib.Numerals.{add-one}

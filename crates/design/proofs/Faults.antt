@@ -14,7 +14,7 @@ use Rattle.finite.specs.Faults.{firstFault}
 use Rattle.finite.proofs.Testing.{all-fails, all-more}
 use Rattle.finite.proofs.Faults.{fault-here, fault-past, fault-none}
 use Rattle.anf.specs.Terms.{before}
-use Rattle.design.specs.Bytes.{u16At, u32At}
+use Rattle.records.specs.Bytes.{u16At, u32At}
 use Rattle.design.specs.Reading.{kindDue, sizeDue, lengthDue, entryFits, previous, termFits, faultAt}
 use Rattle.design.specs.inside.Framing.{frameFault}
 use Rattle.design.specs.declared.Head.{Head}

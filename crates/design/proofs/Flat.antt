@@ -4,9 +4,10 @@ use mathlib.Core.List.{List, []}
 use lib.ListN.{getD}
 use lib.Dec.{eqb}
 use Rattle.finite.specs.Tests.{pick, tabulate}
-use Rattle.design.specs.Bytes.{termBytes}
+use Rattle.records.specs.Bytes.{termBytes}
 use Rattle.design.specs.Design.{Stage, Design, stageOf}
-use Rattle.design.specs.Encode.{join, aRecord, headBody}
+use Rattle.records.specs.Records.{join, aRecord}
+use Rattle.design.specs.Encode.{headBody}
 use Rattle.design.specs.Reading.{kindDue, lastOf}
 use Rattle.design.specs.declared.Head.{Head}
 

@@ -12,7 +12,7 @@ use Rattle.finite.specs.Tests.{all, tabulate}
 use Rattle.finite.proofs.Testing.{and-left, and-right, all-at, tabulate-length, tabulate-at, pick-passed}
 use Rattle.anf.specs.Terms.{before}
 use Rattle.design.specs.Limits.{greatestTerms}
-use Rattle.design.specs.Bytes.{u16At, u32At}
+use Rattle.records.specs.Bytes.{u16At, u32At}
 use Rattle.design.specs.Design.{TableFits, ListFits, StageFits, WellFormed}
 use Rattle.design.specs.Reading.{numberOf, kindDue, sizeDue, lengthDue, entryFits, previous, termFits, faultAt, means, reading, place, headOf, meaning, stageAt, tableAt, listAt}
 use Rattle.design.specs.declared.Head.{Head}

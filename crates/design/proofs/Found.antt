@@ -15,7 +15,7 @@ use lib.Dec.{ltb, eqb, lit<}
 use Rattle.finite.specs.Tests.{pick}
 use Rattle.finite.proofs.Testing.{tabulate-at, pick-missed}
 use Rattle.design.specs.Limits.{greatestWidth, greatestShares, greatestShareBits, greatestTerms}
-use Rattle.design.specs.Bytes.{u16At}
+use Rattle.records.specs.Bytes.{u16At}
 use Rattle.design.specs.Design.{Design, noStage, stageOf, listOf}
 use Rattle.design.specs.inside.Described.{Limits, Describes}
 use Rattle.design.specs.Reading.{lastOf, numberOf, kindDue, sizeDue, lengthDue, faultAt, Reading, refused, means, reading, walk, place, headOf, meaning, stageAt, tableAt, listAt}

@@ -1,5 +1,4 @@
 -- Laws of the design file.
-pub mod Numbers
 pub mod Limits
 pub mod Heading
 pub mod Records
@@ -9,16 +8,12 @@ pub mod Answering
 pub mod Reasons
 pub mod Found
 pub mod Flat
-pub mod Joined
 pub mod Written
 pub mod Taking
-pub mod TermBytes
-pub mod Overwriting
-pub mod Putting
-pub mod Producing
 pub mod Formed
 pub mod Answered
 pub mod StageLists
+pub mod FileLength
 pub mod Encoded
 pub mod Nested
 pub mod Theorems

@@ -9,13 +9,14 @@ use borrow.Author.Tests.{ne-eqb}
 use lib.ListN.{length, getD}
 use Rattle.finite.specs.Tests.{tabulate}
 use Rattle.finite.proofs.Testing.{tabulate-congr}
-use Rattle.design.specs.Bytes.{termBytes}
+use Rattle.records.specs.Bytes.{termBytes}
 use Rattle.design.specs.Design.{Design, noStage, stageOf, listOf, WellFormed}
-use Rattle.design.specs.Encode.{join, aRecord, stageBytes, encode}
+use Rattle.records.specs.Records.{join, aRecord}
+use Rattle.design.specs.Encode.{stageBytes, encode}
 use Rattle.design.specs.Reading.{lastOf, numberOf, kindDue}
 use Rattle.design.proofs.Flat.{headFor, stageBody, bodyOf, recordOf, flat}
 use Rattle.design.proofs.Found.{staged}
-use Rattle.design.proofs.Joined.{join-snoc}
+use Rattle.records.proofs.Joined.{join-snoc}
 use Rattle.design.proofs.Written.{body-stage, body-end, kind-end}
 
 map-is : {A : Type 0} {B : Type 0} (k : A → B) (xs : List A) (n : ℕ) (d : A) → length xs ≡ n → map k xs ≡ tabulate n (λ i. k (getD xs i d))

@@ -17,7 +17,7 @@ use Rattle.finite.proofs.Testing.{all-at, all-not, clash, true-or-false, below,
 use Rattle.finite.proofs.Faults.{fault-cases}
 use Rattle.anf.specs.Terms.{before}
 use Rattle.design.specs.Limits.{greatestTerms, broken}
-use Rattle.design.specs.Bytes.{u16At}
+use Rattle.records.specs.Bytes.{u16At}
 use Rattle.design.specs.Reading.{refused, means, lastOf, headOf, kindDue, sizeDue, lengthDue, entryFits, termFits, previous, faultAt, meaning, place, walk, reading, bodyFaults}
 use Rattle.design.specs.Refused.{WithinLimits, LengthFits, TermFits, RecordStands, RecordFits, FitBefore, Reached, termAt, kindAt}
 use Rattle.design.specs.Refused.{RefusedFor, head-cut, kind-wrong, length-wrong, body-cut, limit-broken, entry-high, term-wrong, bytes-follow}

@@ -14,7 +14,7 @@ use Rattle.finite.specs.Faults.{firstFault}
 use Rattle.finite.proofs.Testing.{and-false-right, pick-twice, pick-not}
 use Rattle.finite.proofs.Faults.{no-fault, fault-front, fault-past}
 use Rattle.anf.specs.Terms.{before}
-use Rattle.design.specs.Bytes.{byte, u16At, u32At}
+use Rattle.records.specs.Bytes.{byte, u16At, u32At}
 use Rattle.design.specs.Reading.{lastOf, kindDue, sizeDue, lengthDue, frameFaults, entryFits, previous, termFits, bodyFaults, faultAt}
 use Rattle.design.specs.inside.Framing.{frameFault}
 use Rattle.design.specs.declared.Head.{Head}

@@ -7,15 +7,16 @@ use lib.Arith.{digits-lt}
 use lib.ListN.{length, getD, take, drop, length-take, length-drop}
 use lib.Seq.{ext-getD, getD-take, getD-drop, take-all, length-take-le}
 use Rattle.finite.proofs.Testing.{tabulate-length, tabulate-at}
-use Rattle.design.specs.Bytes.{Bytes, u16At, termBytes}
+use Rattle.records.specs.Bytes.{Bytes, u16At, termBytes}
 use Rattle.design.specs.Design.{stageOf, listOf}
 use Rattle.design.specs.Reading.{headOf, lastOf, numberOf, place, meaning}
 use Rattle.design.specs.inside.Described.{Describes}
-use Rattle.design.specs.inside.StageLists.{terms, bodyAt, Inside, AllInside, listsOf}
+use Rattle.records.specs.inside.Terms.{terms}
+use Rattle.design.specs.inside.StageLists.{bodyAt, Inside, AllInside, listsOf}
 use Rattle.design.specs.declared.Layout.{Layout}
 use Rattle.design.specs.Limits.{greatestRecords, greatestTerms}
 use Rattle.design.proofs.Limits.{records}
-use Rattle.design.proofs.TermBytes.{terms-of-bytes, length-termBytes}
+use Rattle.records.proofs.TermBytes.{terms-of-bytes, length-termBytes}
 use Rattle.design.proofs.Walking.{place-next}
 use Rattle.design.proofs.Answered.{described}
 use Rattle.design.proofs.Found.{number-low}
@@ -31,7 +32,7 @@ module _ (f starts : List ℕ) (first n : ℕ) where
   listsOf-at i h = tabulate-at n _ i [] h
 
 -- a body inside the file is no longer than a list may be
-pub body-short : (f b : List ℕ) (start next : ℕ) → next ≤ start + 4 + 4 * greatestTerms → b ≡ bodyAt f start next → length b ≤ 4 * greatestTerms
+pub body-short : (f b : List ℕ) (start next : ℕ) → next ≤ start + 4 + 4 * greatestTerms → b ≡ bodyAt f start next → length b < 65536
 body-short f b start next h e = omega (arith, ap length e, length-take (next - 4 - start) (drop start f))
 
 pub stages-length : (f : List ℕ) (y : Layout) → Describes f y → length (meaning f .stages) ≡ y .head .k

@@ -11,7 +11,7 @@ use mir.Syntax.{w8, w64}
 use mir.Val.{Fits}
 use borrow.Rule.Slice.Know.{Fit}
 use borrow.Table.Referent.{fInt}
-use Rattle.design.specs.Bytes.{u16At, termBytes}
+use Rattle.records.specs.Bytes.{u16At, termBytes}
 use Rattle.design.specs.Design.{stageOf, listOf}
 use Rattle.design.specs.inside.Described.{Describes}
 use Rattle.design.specs.Reading.{numberOf, meaning}

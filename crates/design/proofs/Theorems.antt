@@ -6,7 +6,7 @@ use mathlib.Core.List.{List, []}
 use mathlib.Core.Logic.{_↔_}
 use lib.Seq.{ext-getD}
 use Rattle.anf.proofs.Terms.{unique-terms}
-use Rattle.design.specs.Bytes.{Bytes}
+use Rattle.records.specs.Bytes.{Bytes}
 use Rattle.design.specs.Design.{Design, WellFormed, SameMeaning, noStage, stageOf}
 use Rattle.design.specs.Encode.{encode}
 use Rattle.design.specs.Reading.{means, reading}

@@ -9,7 +9,7 @@ use native.Mathlib.Numerals.{add-one}
 use borrow.Author.Tests.{eqb-true, lt-ltb, le-ltb, ne-eqb}
 use lib.ListN.{length}
 use Rattle.finite.specs.Tests.{pick}
-use Rattle.design.specs.Bytes.{byte, u16At}
+use Rattle.records.specs.Bytes.{byte, u16At}
 use Rattle.design.specs.Limits.{broken}
 use Rattle.design.specs.Reading.{lastOf, kindDue, sizeDue, lengthDue, faultAt, refused, means, reading, walk, place, headOf, meaning}
 use Rattle.design.specs.inside.Framing.{frameFault}

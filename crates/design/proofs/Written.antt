@@ -13,9 +13,9 @@ use lib.Dec.{eqb}
 use Rattle.finite.specs.Tests.{tabulate}
 use Rattle.finite.proofs.Testing.{tabulate-congr, and-left, and-right}
 use Rattle.design.specs.Limits.{greatestTerms}
-use Rattle.design.specs.Bytes.{byte, u16At, u32At, termBytes, Bytes}
+use Rattle.records.specs.Bytes.{byte, u16At, u32At, termBytes, Bytes}
 use Rattle.design.specs.Design.{Design, stageOf, listOf}
-use Rattle.design.specs.Encode.{join, aRecord}
+use Rattle.records.specs.Records.{join, aRecord}
 use Rattle.design.specs.inside.Described.{Describes}
 use Rattle.design.specs.Reading.{lastOf, numberOf, kindDue, sizeDue, lengthDue, means, reading, place, headOf, meaning, stageAt, tableAt, listAt}
 use Rattle.design.specs.declared.Head.{Head}
@@ -25,7 +25,7 @@ use Rattle.design.proofs.Records.{Framed}
 use Rattle.design.proofs.Walking.{head-size}
 use Rattle.design.proofs.Records.{frame-none, fault-framed}
 use Rattle.design.proofs.Found.{number-two, number-low, number-div, number-mod, record-cases, ends, fine, stage-is, list-is, table-framed, list-framed, Part}
-use Rattle.design.proofs.Joined.{join-snoc}
+use Rattle.records.proofs.Joined.{join-snoc}
 
 -- record i of the file f as it stands
 abbrev span : List ℕ → ℕ → List ℕ

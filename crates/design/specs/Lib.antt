@@ -1,9 +1,7 @@
 -- The design file.
 pub mod Limits
 pub mod Design
-pub mod Bytes
 pub mod Encode
-pub mod Writing
 pub mod Reading
 pub mod Refused
 pub mod Layout

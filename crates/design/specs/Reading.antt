@@ -9,7 +9,7 @@ use Rattle.finite.specs.Faults.{firstFault}
 use Rattle.anf.specs.Terms.{before}
 use Rattle.design.specs.Limits.{greatestTerms, broken, checked, headAnswer}
 use Rattle.design.specs.Design.{Stage, Design}
-use Rattle.design.specs.Bytes.{byte, u16At, u32At}
+use Rattle.records.specs.Bytes.{byte, u16At, u32At}
 use Rattle.design.specs.declared.Head.{Head}
 
 -- a refusal has a reason and a place

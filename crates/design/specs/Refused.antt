@@ -5,7 +5,7 @@ use mathlib.Core.Bool.{true}
 use mathlib.Core.List.{List}
 use lib.ListN.{length}
 use Rattle.anf.specs.Terms.{before}
-use Rattle.design.specs.Bytes.{byte, u16At, u32At}
+use Rattle.records.specs.Bytes.{byte, u16At, u32At}
 use Rattle.design.specs.Limits.{greatestWidth, leastShares, greatestShares, greatestShareBits, greatestStages, greatestTerms}
 use Rattle.design.specs.Reading.{headOf, lastOf, kindDue, place}
 use Rattle.design.specs.declared.Head.{Head}

@@ -2,4 +2,3 @@
 pub mod Described
 pub mod Framing
 pub mod StageLists
-pub mod Overwriting

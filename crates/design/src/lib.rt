@@ -1,9 +1,6 @@
-// The design file: the head and its limits, reading, what a file that reads holds, and writing.
-mod bytes; // bytes.rt: numbers in a file
-mod terms; // terms.rt: lists of terms as they stand in a file
+// The design file: the head and its limits, reading, and what a file that reads holds.
 mod reader; // reader.rt: the tests of each record, and the walk over all
 mod parts; // parts.rt: the tables and lists of a file that reads
-mod writer; // writer.rt: records, lists and the end of a file
 
 pub use parts::body;
 pub use parts::box_table;
@@ -11,16 +8,6 @@ pub use parts::list;
 pub use parts::number;
 pub use parts::table;
 pub use reader::read;
-pub use terms::count;
-pub use terms::stands_before;
-pub use terms::term;
-pub use terms::value;
-pub use writer::no_file;
-pub use writer::put_end;
-pub use writer::put_list;
-pub use writer::put_numbers;
-pub use writer::put_record;
-pub use writer::record_size;
 ghost use mathlib.Core.Path.{_≡_};
 ghost use Rattle.design.specs.Limits.{checked};
 
@@ -91,11 +78,4 @@ pub struct Layout {
     pub place: usize,
     pub head: Head,
     pub starts: [usize; GREATEST_RECORDS],
-}
-
-// The answer of what writes a file: the number of a refusal, or 0 and the length of the file.
-#[repr(C)]
-pub struct Produced {
-    pub reason: usize,
-    pub length: usize,
 }

@@ -1,12 +1,12 @@
 // The tables and the lists of a file that reads, as parts of the file. Stages and lists are counted from 0.
 use super::Head;
 use super::Layout;
-use super::bytes::pair;
 use finite::power;
+use records::pair;
 ghost use mathlib.Core.Path.{_≡_};
 ghost use Prim.Native.Nat.{_*_, _≤_, _<_};
 ghost use lib.ListN.{getD};
-ghost use Rattle.design.specs.Bytes.{termBytes};
+ghost use Rattle.records.specs.Bytes.{termBytes};
 ghost use Rattle.design.specs.Design.{stageOf, listOf};
 ghost use Rattle.design.specs.Limits.{greatestRecords};
 ghost use Rattle.design.specs.Reading.{lastOf, numberOf, meaning};

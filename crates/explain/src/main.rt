@@ -73,7 +73,7 @@ fn print_formula(list: &[u8], j: usize, b: usize, m: usize, bits: usize)
     print(b"[");
     print_number(b);
     print(b"] =");
-    let n = design::count(list);
+    let n = records::count(list);
     if n == 0 {
         print(b" 0");
     }
@@ -84,7 +84,7 @@ fn print_formula(list: &[u8], j: usize, b: usize, m: usize, bits: usize)
         } else {
             print(b" + ");
         }
-        print_term(design::term(list, i), m, bits);
+        print_term(records::term(list, i), m, bits);
         i += 1;
     }
     print(b"\n");

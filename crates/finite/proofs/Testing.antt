@@ -9,7 +9,7 @@ use native.Mathlib.Nat.{le-of-suc-le-suc, not-suc-le-zero, le-refl, le-step, eq-
 use native.Mathlib.Numerals.{add-one}
 use native.Mathlib.Omega.{arith}
 use lib.ListN.{length, getD, drop, set}
-use lib.Seq.{set-at, drop-cons}
+use lib.Seq.{set-at, drop-cons, ext-getD}
 use Rattle.finite.specs.Tests.{pick, implies, all, any, first, tabulate}
 
 -- ---- Bool
@@ -231,6 +231,11 @@ unfolding tabulate
 tabulate-at zero g i z l = absurd (not-suc-le-zero l)
 tabulate-at (suc n) g zero z l = refl
 tabulate-at (suc n) g (suc i) z l = tabulate-at n (λ k. g (suc k)) i z (le-of-suc-le-suc l)
+
+pub tabulate-of : {A : Type 0} (xs : List A) (n : ℕ) (g : ℕ → A) (d : A) → length xs ≡ n → ((i : ℕ) → i < n → g i ≡ getD xs i d) → tabulate n g ≡ xs
+tabulate-of xs n g d l e =
+    ext-getD d (tabulate n g) xs (tabulate-length n g ∙ sym l)
+    (λ i h. let q : i < n = rw tabulate-length at h in tabulate-at n g i d q ∙ e i q)
 
 pub tabulate-congr : {A : Type 0} (n : ℕ) (f g : ℕ → A) → ((i : ℕ) → i < n → f i ≡ g i) → tabulate n f ≡ tabulate n g
 unfolding tabulate

@@ -13,7 +13,7 @@ use Rattle.checker.specs.Verdict.{answer, workspaceFor, verdict}
 use Rattle.checker.specs.Accepted.{ChainIsBox, TablePermutes, CorrectAt, IgnoresOwn, Explained, refusal, fault-8, fault-9, fault-10, fault-11, fault-12, fault-13, fault-14, accepted}
 use Rattle.checker.specs.declared.Verdict.{Verdict}
 use Rattle.checker.proofs.Exactly.{explained}
-use Rattle.producer.specs.Direct.{directStage, directSharing, Box}
+use Rattle.direct.specs.Direct.{directStage, directSharing, Box}
 use Rattle.producer.specs.Producing.{produced}
 use Rattle.producer.proofs.Theorems.{ProducedSound, produced-sound}
 

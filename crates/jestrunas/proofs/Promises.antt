@@ -22,7 +22,7 @@ use Rattle.anf.proofs.Degree.{shares-bound}
 use Rattle.anf.proofs.Answers.{transform-back}
 use Rattle.anf.proofs.Bench as anf-bench
 use Rattle.design.specs.Limits.{broken, checked, headAnswer}
-use Rattle.design.specs.Bytes.{Bytes}
+use Rattle.records.specs.Bytes.{Bytes}
 use Rattle.design.specs.Design.{Stage, Design, TableFits, StageFits, WellFormed, SameMeaning}
 use Rattle.design.specs.Encode.{encode}
 use Rattle.design.specs.Reading.{refused, means, reading}
@@ -42,13 +42,14 @@ use Rattle.checker.specs.Bench as bench-checker
 use Rattle.checker.proofs.Exactly as exactly
 use Rattle.checker.proofs.Assurance as assured
 use Rattle.checker.proofs.Bench as checker-bench
-use Rattle.producer.specs.Direct.{isProduct, chosen, componentFor, directStage, directSharing, Shareable, Box}
+use Rattle.direct.specs.Direct.{isProduct, chosen, componentFor, directStage, directSharing, Shareable, Box}
 use Rattle.producer.specs.Producing.{produced, producedReason, producing, outputAfter, Succeeds, producedMost}
 use Rattle.producer.specs.Bench as bench-producer
 use Rattle.producer.proofs.Theorems.{produced-sound, success-exactly, sixteen-exactly, output-file, output-rest, output-refused}
-use Rattle.producer.proofs.Shareable as shareable
-use Rattle.producer.proofs.Counts.{products-count}
+use Rattle.direct.proofs.Shareable as shareable
+use Rattle.direct.proofs.Counts.{products-count}
 use Rattle.producer.proofs.Room as producer-room
+use Rattle.direct.proofs.Bench as direct-bench
 use Rattle.producer.proofs.Bench as producer-bench
 use Rattle.jestrunas.proofs.Produced.{produced-verdict}
 
@@ -134,18 +135,18 @@ products = products-count
 
 -- For three shares and a product xy (m is 2, x is bit 0, y is bit 1) component 1 gets x2y2, x3y2 and x2y3.
 pub product-xy : passing (2 ^ 6) (λ p. isProduct 2 3 3 p && eqb (componentFor 3 (chosen 2 3 p)) 0) ≡ 12 ∷ 24 ∷ 36 ∷ []
-product-xy = producer-bench.xy-first
+product-xy = direct-bench.xy-first
 
 -- The rule as tables over the sets J, for three, four and five shares; components count from 0, and the set of all shares has none.
 pub rule-three : tabulate (2 ^ 3) (componentFor 3) ≡ 0 ∷ 2 ∷ 0 ∷ 2 ∷ 1 ∷ 1 ∷ 0 ∷ 3 ∷ []
-rule-three = producer-bench.rule-three
+rule-three = direct-bench.rule-three
 
 pub rule-four : tabulate (2 ^ 4) (componentFor 4) ≡ 0 ∷ 3 ∷ 0 ∷ 3 ∷ 1 ∷ 1 ∷ 0 ∷ 3 ∷ 2 ∷ 2 ∷ 0 ∷ 2 ∷ 1 ∷ 1 ∷ 0 ∷ 4 ∷ []
-rule-four = producer-bench.rule-four
+rule-four = direct-bench.rule-four
 
 pub rule-five : tabulate (2 ^ 5) (componentFor 5)
     ≡ 0 ∷ 4 ∷ 0 ∷ 4 ∷ 1 ∷ 1 ∷ 0 ∷ 4 ∷ 2 ∷ 2 ∷ 0 ∷ 2 ∷ 1 ∷ 1 ∷ 0 ∷ 4 ∷ 3 ∷ 3 ∷ 0 ∷ 3 ∷ 1 ∷ 1 ∷ 0 ∷ 3 ∷ 2 ∷ 2 ∷ 0 ∷ 2 ∷ 1 ∷ 1 ∷ 0 ∷ 5 ∷ []
-rule-five = producer-bench.rule-five
+rule-five = direct-bench.rule-five
 
 -- ---- Producing
 
@@ -217,6 +218,6 @@ bench = record {
   verdicts = checker-bench.bench-verdicts;
   runs = checker-bench.bench-runs;
   productions = producer-bench.bench-answers;
-  lists = producer-bench.bench-lists;
+  lists = direct-bench.bench-lists;
   outputs = producer-bench.bench-outputs;
 }

@@ -1,6 +1,6 @@
 // The published operations, exported to C. Each is a call of the layer below, with the same contract and no `requires`.
 use checker::Verdict;
-use design::Produced;
+use records::Produced;
 use threshold::FiveShares;
 use threshold::Ran;
 ghost use mathlib.Core.Path.{_≡_};

@@ -22,14 +22,15 @@ use Rattle.anf.specs.Transform.{transformAfter, transformed}
 use Rattle.anf.proofs.Passing.{passing-congr}
 use Rattle.anf.proofs.Answers.{input-answer, transformed-degree}
 use Rattle.design.specs.Limits.{greatestTerms, broken, checked, headAnswer}
-use Rattle.design.specs.inside.Overwriting.{overwrite, noFile}
+use Rattle.records.specs.inside.Overwriting.{overwrite, noFile}
 use Rattle.design.proofs.Limits.{bounds, head-number}
-use Rattle.design.proofs.Producing.{refusal-answer, refusal-after, success-answer, success-written}
-use Rattle.producer.specs.Direct.{isProduct, chosen, componentFor, stands, directList, directLists, directStage, directSharing}
+use Rattle.records.proofs.Producing.{refusal-answer, refusal-after, success-answer, success-written}
+use Rattle.direct.specs.Direct.{isProduct, chosen, componentFor, stands, directList, directLists, directStage, directSharing}
 use Rattle.producer.specs.Producing.{produced, producedReason, producing, outputAfter}
-use Rattle.producer.specs.inside.Expanding.{TableTested, DegreeTested, Follows, Gathers, oneStageFile, ruleTables}
-use Rattle.design.specs.declared.Produced.{Produced}
-use Rattle.producer.proofs.Gathering.{rule-follows}
+use Rattle.direct.specs.inside.Expanding.{Follows, Gathers, ruleTables}
+use Rattle.producer.specs.inside.Filing.{TableTested, DegreeTested, oneStageFile}
+use Rattle.records.specs.declared.Produced.{Produced}
+use Rattle.direct.proofs.Gathering.{rule-follows}
 
 -- ---- the answer from the reason
 

@@ -1,9 +1,7 @@
--- The bench designs of producing: every row of the table, by computing; and the products of xy that go to component 1.
-use Prim.Native.Nat.{ℕ, _^_}
+-- The bench designs of producing: every row of the table, by computing.
+use Prim.Native.Nat.{ℕ}
 use mathlib.Core.Path.{_≡_, refl}
-use mathlib.Core.Bool.{_&&_}
-use mathlib.Core.List.{[], _∷_, map}
-use lib.Dec.{eqb}
+use mathlib.Core.List.{map}
 use lib.Count.{ones}
 use lib.ListN.{length}
 use Rattle.finite.specs.Tests.{all, any, first, total, tabulate}
@@ -15,11 +13,12 @@ use Rattle.anf.specs.NormalForm.{subsetSum, largest, degree}
 use Rattle.anf.specs.Terms.{passing}
 use Rattle.anf.specs.Tables.{entriesBelow}
 use Rattle.design.specs.Limits.{broken}
-use Rattle.design.specs.Bytes.{termBytes}
-use Rattle.design.specs.Encode.{join, aRecord, stageBytes, encode}
-use Rattle.design.specs.Writing.{writingAnswer, writingAfter}
+use Rattle.records.specs.Bytes.{termBytes}
+use Rattle.records.specs.Records.{join, aRecord}
+use Rattle.design.specs.Encode.{stageBytes, encode}
+use Rattle.records.specs.Writing.{writingAnswer, writingAfter}
 use Rattle.threshold.specs.Sharing.{share}
-use Rattle.producer.specs.Direct.{isProduct, chosen, componentFor, stands, directList, directLists, directStage, directSharing}
+use Rattle.direct.specs.Direct.{isProduct, chosen, componentFor, stands, directList, directLists, directStage, directSharing}
 use Rattle.producer.specs.Producing.{produced, producedReason, producing, outputAfter}
 use Rattle.producer.specs.Bench.{rows}
 
@@ -40,27 +39,3 @@ bench-answers = refl
 pub bench-outputs : map (λ r. outputAfter (r .m) (r .s) (r .table) (r .output)) rows ≡ map (λ r. r .after) rows
 unfolding computing
 bench-outputs = refl
-
--- its lists
-pub bench-lists : directStage 1 3 (1 ∷ 0 ∷ []) .lists ≡ (0 ∷ 2 ∷ []) ∷ (4 ∷ []) ∷ (1 ∷ []) ∷ []
-unfolding computing
-bench-lists = refl
-
--- for three shares and a product xy, component 1 gets x2y2, x3y2, x2y3
-pub xy-first : passing (2 ^ 6) (λ p. isProduct 2 3 3 p && eqb (componentFor 3 (chosen 2 3 p)) 0) ≡ 12 ∷ 24 ∷ 36 ∷ []
-unfolding computing
-xy-first = refl
-
--- the rule as tables, over the sets J of chosen shares from the empty one on, components counted from 0; where all s shares are chosen there is none, and s stands
-pub rule-three : tabulate (2 ^ 3) (componentFor 3) ≡ 0 ∷ 2 ∷ 0 ∷ 2 ∷ 1 ∷ 1 ∷ 0 ∷ 3 ∷ []
-unfolding computing
-rule-three = refl
-
-pub rule-four : tabulate (2 ^ 4) (componentFor 4) ≡ 0 ∷ 3 ∷ 0 ∷ 3 ∷ 1 ∷ 1 ∷ 0 ∷ 3 ∷ 2 ∷ 2 ∷ 0 ∷ 2 ∷ 1 ∷ 1 ∷ 0 ∷ 4 ∷ []
-unfolding computing
-rule-four = refl
-
-pub rule-five : tabulate (2 ^ 5) (componentFor 5)
-    ≡ 0 ∷ 4 ∷ 0 ∷ 4 ∷ 1 ∷ 1 ∷ 0 ∷ 4 ∷ 2 ∷ 2 ∷ 0 ∷ 2 ∷ 1 ∷ 1 ∷ 0 ∷ 4 ∷ 3 ∷ 3 ∷ 0 ∷ 3 ∷ 1 ∷ 1 ∷ 0 ∷ 3 ∷ 2 ∷ 2 ∷ 0 ∷ 2 ∷ 1 ∷ 1 ∷ 0 ∷ 5 ∷ []
-unfolding computing
-rule-five = refl

@@ -10,12 +10,13 @@ use lib.ListN.{length}
 use mir.Syntax.{w64}
 use mir.Val.{Fits}
 use Rattle.design.specs.Limits.{greatestTerms, broken}
-use Rattle.design.specs.Encode.{aRecord, endRecord}
-use Rattle.design.specs.inside.Overwriting.{overwrite, listRecords}
+use Rattle.records.specs.Records.{aRecord, endRecord}
+use Rattle.records.specs.inside.Overwriting.{overwrite, listRecords}
 use Rattle.design.proofs.Limits.{bounds}
-use Rattle.design.proofs.Overwriting.{overwrite-nil, record-length}
-use Rattle.design.proofs.Putting.{records-none, runs-three}
-use Rattle.producer.specs.inside.Expanding.{Gathers, tableRecords, oneStageFile, listMost, listsMost}
+use Rattle.records.proofs.Overwriting.{overwrite-nil, record-length}
+use Rattle.records.proofs.Putting.{records-none, runs-three}
+use Rattle.direct.specs.inside.Expanding.{Gathers}
+use Rattle.producer.specs.inside.Filing.{tableRecords, oneStageFile, listMost, listsMost}
 use Rattle.producer.proofs.Writing.{tables-length, file-records, file-length}
 
 -- ---- the lists: count is how many terms there are in list i

@@ -16,16 +16,17 @@ use Rattle.anf.specs.inside.Words.{wordsDegree}
 use Rattle.anf.specs.Transform.{transformAfter}
 use Rattle.anf.specs.NormalForm.{degree}
 use Rattle.design.specs.Limits.{greatestTerms, broken, checked, headAnswer}
-use Rattle.design.specs.inside.Overwriting.{overwrite, noFile}
+use Rattle.records.specs.inside.Overwriting.{overwrite, noFile}
 use Rattle.design.specs.declared.Head.{Head}
 use Rattle.design.specs.declared.Checked.{Checked}
 use Rattle.design.specs.declared.Checked.the-variants.{Good, Beyond}
 use Rattle.design.proofs.Limits.{bounds}
-use Rattle.producer.specs.Direct.{directLists}
+use Rattle.direct.specs.Direct.{directLists}
 use Rattle.producer.specs.Producing.{produced}
-use Rattle.producer.specs.inside.Expanding.{Gathers, TableTested, DegreeTested, ruleTables, oneStageFile}
-use Rattle.design.specs.declared.Produced.{Produced}
-use Rattle.producer.proofs.Gathering.{rules-length}
+use Rattle.direct.specs.inside.Expanding.{Gathers, ruleTables}
+use Rattle.producer.specs.inside.Filing.{TableTested, DegreeTested, oneStageFile}
+use Rattle.records.specs.declared.Produced.{Produced}
+use Rattle.direct.proofs.Gathering.{rules-length}
 use Rattle.producer.proofs.Answering.{Answered, refuses, succeeds, reason-head, head-within, reason-size, reason-entry, reason-repeat, table-tested, reason-degree}
 use Rattle.producer.proofs.Answering.{found-degree, found-ready, file-is, ready-gathers, short, enough, sets-least, sets-most, rule-part}
 

@@ -5,8 +5,8 @@ use mathlib.Core.List.{List}
 use Prim.Native.Nat.{ℕ, _≤_}
 use lib.ListN.{length, take}
 use lib.Seq.{length-take-le}
-use Rattle.design.specs.declared.Produced.{Produced}
-use Rattle.design.proofs.Producing.{length-within}
+use Rattle.records.specs.declared.Produced.{Produced}
+use Rattle.records.proofs.Producing.{length-within}
 use Rattle.producer.specs.Producing.{produced, producedReason, producing, outputAfter}
 
 -- r is answered, and the output is `after`

@@ -1,18 +1,6 @@
--- Laws of the direct sharing.
-pub mod Products
-pub mod Expansion
-pub mod Counts
-pub mod Placement
-pub mod Stage
-pub mod Formed
-pub mod Shareable
+-- Laws of producing.
 pub mod Theorems
 pub mod Room
-pub mod Inserting
-pub mod Emitting
-pub mod Choosing
-pub mod Gathering
-pub mod Stepping
 pub mod Writing
 pub mod Filing
 pub mod Answering

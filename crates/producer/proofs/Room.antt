@@ -21,11 +21,11 @@ use Rattle.anf.specs.Tables.{entry}
 use Rattle.anf.proofs.Passing.{passing-length}
 use Rattle.design.specs.Limits.{broken}
 use Rattle.design.proofs.Limits.{bounds}
-use Rattle.design.proofs.Overwriting.{stage-length, encode-length}
-use Rattle.producer.specs.Direct.{isProduct, chosen, componentFor, stands, directList, directStage, directSharing, Box}
+use Rattle.design.proofs.FileLength.{stage-length, encode-length}
+use Rattle.direct.specs.Direct.{isProduct, chosen, componentFor, stands, directList, directStage, directSharing, Box}
 use Rattle.producer.specs.Producing.{produced, producedReason, productsMost, producedMost}
-use Rattle.producer.proofs.Counts.{products-count}
-use Rattle.producer.proofs.Stage.{term-small, list-at, lists-length}
+use Rattle.direct.proofs.Counts.{products-count}
+use Rattle.direct.proofs.Stage.{term-small, list-at, lists-length}
 use Rattle.producer.proofs.Theorems.{past-degree, seventeen-exactly}
 
 -- ---- the lists of one output bit

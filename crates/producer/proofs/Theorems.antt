@@ -21,16 +21,16 @@ use Rattle.design.specs.Limits.{broken}
 use Rattle.design.specs.Reading.{means, reading}
 use Rattle.design.proofs.Limits.{bounds, head-number}
 use Rattle.design.proofs.Theorems.{encode-reads}
-use Rattle.design.proofs.Producing.{success-file, success-rest, refusal-after}
+use Rattle.records.proofs.Producing.{success-file, success-rest, refusal-after}
 use Rattle.threshold.specs.Stages.{component, Correct, NonComplete}
 use Rattle.threshold.specs.Chain.{chained}
-use Rattle.producer.specs.Direct.{directStage, directSharing, Shareable, Box}
+use Rattle.direct.specs.Direct.{directStage, directSharing, Shareable, Box}
 use Rattle.producer.specs.Producing.{produced, producedReason, Succeeds, outputAfter}
-use Rattle.producer.specs.inside.Expanding.{TableTested}
+use Rattle.producer.specs.inside.Filing.{TableTested}
 use Rattle.producer.proofs.Answering.{table-tested, reason-degree, reason-last}
-use Rattle.producer.proofs.Stage.{direct-correct, direct-non-complete}
-use Rattle.producer.proofs.Formed.{sharing-formed}
-use Rattle.producer.proofs.Shareable.{shareable-low, low-shareable}
+use Rattle.direct.proofs.Stage.{direct-correct, direct-non-complete}
+use Rattle.direct.proofs.Formed.{sharing-formed}
+use Rattle.direct.proofs.Shareable.{shareable-low, low-shareable}
 
 module _ (m s : ℕ) (t : List ℕ) (room : ℕ) where
   -- a permutation within the limits passes the tests that come before 16

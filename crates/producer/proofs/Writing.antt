@@ -6,12 +6,13 @@ use Prim.Native.Nat.{ℕ, _+_, _*_, _/_, _%_, _≤_, _<_}
 use native.Mathlib.Omega.{arith}
 use lib.ListN.{length, getD, take, length-append}
 use Rattle.finite.proofs.Testing.{tabulate-at, tabulate-length}
-use Rattle.design.specs.Encode.{join, aRecord, listRecord, endRecord, stageBytes, encode}
-use Rattle.design.specs.inside.Overwriting.{overwrite, listRecords}
-use Rattle.design.proofs.Overwriting.{overwrite-append}
-use Rattle.design.proofs.Putting.{list-record-length, records-more, records-all, records-within}
-use Rattle.producer.specs.Direct.{directList, directLists}
-use Rattle.producer.specs.inside.Expanding.{tableRecords, oneStageFile}
+use Rattle.records.specs.Records.{join, aRecord, listRecord, endRecord}
+use Rattle.design.specs.Encode.{stageBytes, encode}
+use Rattle.records.specs.inside.Overwriting.{overwrite, listRecords}
+use Rattle.records.proofs.Overwriting.{overwrite-append}
+use Rattle.records.proofs.Putting.{list-record-length, records-more, records-all, records-within}
+use Rattle.direct.specs.Direct.{directList, directLists}
+use Rattle.producer.specs.inside.Filing.{tableRecords, oneStageFile}
 
 -- ---- the lists of the direct sharing
 

@@ -2,7 +2,7 @@
 use Prim.Native.Nat.{ℕ}
 use mathlib.Core.List.{List, [], _∷_, _++_}
 use Rattle.finite.specs.Tests.{tabulate}
-use Rattle.design.specs.declared.Produced.{Produced}
+use Rattle.records.specs.declared.Produced.{Produced}
 
 pub record ProducingRow : Type 0 where
   pub m : ℕ

@@ -1,5 +1,4 @@
--- The direct producer.
-pub mod Direct
+-- Producing: the file of a direct sharing.
 pub mod Producing
 pub mod Bench
 pub mod inside

@@ -12,9 +12,9 @@ use Rattle.anf.specs.Tables.{entry, entriesBelow}
 use Rattle.anf.specs.NormalForm.{degree}
 use Rattle.design.specs.Limits.{broken, checked, headAnswer}
 use Rattle.design.specs.Encode.{encode}
-use Rattle.design.specs.Writing.{writingAnswer, writingAfter}
-use Rattle.producer.specs.Direct.{directSharing, Box}
-use Rattle.design.specs.declared.Produced.{Produced}
+use Rattle.records.specs.Writing.{writingAnswer, writingAfter}
+use Rattle.direct.specs.Direct.{directSharing, Box}
+use Rattle.records.specs.declared.Produced.{Produced}
 
 -- the file that is written
 unfoldable pub produced : ℕ → ℕ → List ℕ → List ℕ

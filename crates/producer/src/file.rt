@@ -1,17 +1,18 @@
 // The file of a direct sharing: its length, and writing it.
-use super::expand::gather;
-use design::put_end;
-use design::put_list;
-use design::put_numbers;
-use design::put_record;
-use design::record_size;
+use direct::gather;
+use records::put_end;
+use records::put_list;
+use records::put_numbers;
+use records::put_record;
+use records::record_size;
 ghost use mathlib.Core.Path.{_≡_};
 ghost use mathlib.Core.Bool.{false};
 ghost use Prim.Native.Nat.{_+_, _^_, _≤_};
 ghost use lib.ListN.{length};
 ghost use Rattle.design.specs.Limits.{broken};
-ghost use Rattle.design.specs.inside.Overwriting.{overwrite, listRecords};
-ghost use Rattle.producer.specs.inside.Expanding.{Gathers, tableRecords, listsMost, wordsLists, wordsFile};
+ghost use Rattle.records.specs.inside.Overwriting.{overwrite, listRecords};
+ghost use Rattle.direct.specs.inside.Expanding.{Gathers};
+ghost use Rattle.producer.specs.inside.Filing.{tableRecords, listsMost, wordsLists, wordsFile};
 
 // How many bytes the lists take.
 fn lists_size(rule: &[u8], m: usize, s: usize, words: &[u8], list: &mut [u32]) -> usize

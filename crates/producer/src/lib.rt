@@ -1,5 +1,4 @@
-// The direct sharing of a box.
-mod expand; // expand.rt: the expansion of terms into products, and the list of one bit of one component
+// Producing: the file of the direct sharing of a box.
 mod file; // file.rt: the file's length, and writing it
 
 use anf::entries_below;
@@ -10,18 +9,19 @@ use design::Checked;
 use design::GREATEST_POINTS;
 use design::GREATEST_TERMS;
 use design::Head;
-use design::Produced;
-use design::no_file;
-use expand::rules;
+use direct::rules;
 use file::file_size;
 use file::put_file;
 use finite::power;
+use records::Produced;
+use records::no_file;
 ghost use mathlib.Core.Path.{_≡_};
 ghost use mathlib.Core.Bool.{false};
 ghost use lib.ListN.{length};
 ghost use Rattle.design.specs.Limits.{broken, checked, headAnswer};
 ghost use Rattle.producer.specs.Producing.{producing, outputAfter};
-ghost use Rattle.producer.specs.inside.Expanding.{Gathers, TableTested, DegreeTested};
+ghost use Rattle.direct.specs.inside.Expanding.{Gathers};
+ghost use Rattle.producer.specs.inside.Filing.{TableTested, DegreeTested};
 
 // Writes the file of the direct sharing, if it fits. It is known to fit before a byte is written.
 fn write_by_rule(

@@ -20,7 +20,8 @@ use Rattle.design.specs.Limits.{greatestWidth, greatestShareBits, greatestRecor
 use Rattle.design.specs.Design.{stageOf}
 use Rattle.design.specs.Reading.{meaning, numberOf}
 use Rattle.design.specs.inside.Described.{Describes}
-use Rattle.design.specs.inside.StageLists.{terms, bodyAt, Inside, AllInside, listsOf}
+use Rattle.records.specs.inside.Terms.{terms}
+use Rattle.design.specs.inside.StageLists.{bodyAt, Inside, AllInside, listsOf}
 use Rattle.design.specs.declared.Layout.{Layout}
 use Rattle.design.proofs.Answered.{described}
 use Rattle.design.proofs.StageLists.{listsOf-length, listsOf-at, lists-inside, lists-known, lists-are}

@@ -8,7 +8,8 @@ ghost use Rattle.design.specs.Limits.{greatestWidth, greatestShareBits};
 ghost use Rattle.design.specs.Design.{stageOf};
 ghost use Rattle.design.specs.Reading.{meaning};
 ghost use Rattle.design.specs.inside.Described.{Describes};
-ghost use Rattle.design.specs.inside.StageLists.{terms, bodyAt, Inside, AllInside, listsOf};
+ghost use Rattle.records.specs.inside.Terms.{terms};
+ghost use Rattle.design.specs.inside.StageLists.{bodyAt, Inside, AllInside, listsOf};
 ghost use Rattle.threshold.specs.Sharing.{sum};
 ghost use Rattle.threshold.specs.Stages.{output, component};
 
@@ -17,7 +18,7 @@ fn bit_at(file: &[u8], start: usize, next: usize, x: u32) -> u32
     requires { ⌜ Inside (now file) start next ⌝ }
     ensures { λ r. ⌜ (r ≡ valueAt (terms (bodyAt (now (file .entry)) start next)) x) × (r < 2) ⌝ }
 {
-    design::value(design::body(file, start, next), x)
+    records::value(design::body(file, start, next), x)
 }
 
 // The output at the sharing `x` of `n` lists, whose bodies start where `starts` has it from `first` on.

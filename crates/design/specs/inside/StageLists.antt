@@ -1,18 +1,10 @@
 -- The lists of a stage as they stand in a file, by where the bodies of its records start.
 use Prim.Native.Nat.{ℕ, _+_, _*_, _-_, _≤_, _<_}
-use mathlib.Core.List.{List, [], _∷_}
+use mathlib.Core.List.{List}
 use lib.ListN.{length, getD, take, drop}
 use Rattle.finite.specs.Tests.{tabulate}
 use Rattle.design.specs.Limits.{greatestTerms}
-use Rattle.design.specs.Bytes.{little}
-
--- the terms that bytes stand for, four bytes each
-unfoldable pub terms : List ℕ → List ℕ
-terms [] = []
-terms (a ∷ []) = []
-terms (a ∷ b ∷ []) = []
-terms (a ∷ b ∷ c ∷ []) = []
-terms (a ∷ b ∷ c ∷ d ∷ l) = little a b c d ∷ terms l
+use Rattle.records.specs.inside.Terms.{terms}
 
 -- the body that starts at a place, where the next one is known to start: four bytes stand between them, the next head
 abbrev pub bodyAt : List ℕ → ℕ → ℕ → List ℕ

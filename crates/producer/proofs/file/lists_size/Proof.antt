@@ -3,9 +3,9 @@ use mathlib.Core.Path.{_≡_, refl}
 use Prim.Native.Nat.{_-_, _*_, _≤_}
 use native.Mathlib.Omega.{arith}
 use lib.ListN.{length, getD, take}
-use Rattle.producer.specs.Direct.{directLists}
-use Rattle.producer.specs.inside.Expanding.{listMost}
-use Rattle.design.specs.inside.Overwriting.{listRecords}
+use Rattle.direct.specs.Direct.{directLists}
+use Rattle.producer.specs.inside.Filing.{listMost}
+use Rattle.records.specs.inside.Overwriting.{listRecords}
 use Rattle.producer.proofs.Filing.{none-counted, bits-fit, some-bit, bit-within, gathers-still, turn-fits, size-fits, terms-fit, body-short, bound-more, size-bound}
 use Rattle.producer.proofs.Writing.{size-more, size-all}
 use Rattle.producer.proofs.file.lists_size.Statement.{statement}

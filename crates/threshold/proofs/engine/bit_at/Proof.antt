@@ -1,4 +1,4 @@
--- `threshold::bit_at` meets its contract: a list that stands in a file is no longer than a list may be.
+-- `threshold::bit_at` meets its contract: a list that stands in a file is short.
 use borrow.Author.Needs.{needs}
 use Rattle.design.proofs.StageLists.{body-short}
 use Rattle.threshold.proofs.Evaluating.{bit-is, bit-small}

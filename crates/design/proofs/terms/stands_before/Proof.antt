@@ -1,7 +1,0 @@
--- `design::stands_before` meets its contract.
-use Rattle.design.proofs.TermBytes.{before-is}
-use Rattle.design.proofs.terms.stands_before.Statement.{statement}
-use Rattle.design.proofs.terms.stands_before.Tie as tie
-
-pub stands-before-spec : {M : Type 1} → statement M
-stands-before-spec = tie.close (tie.spec (λ c. search before-is))

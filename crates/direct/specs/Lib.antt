@@ -1,0 +1,3 @@
+-- The direct sharing.
+pub mod Direct
+pub mod inside
