@@ -31,9 +31,9 @@ module _ (f starts : List ℕ) (first n : ℕ) where
   unfolding listsOf
   listsOf-at i h = tabulate-at n _ i [] h
 
--- a body inside the file is no longer than a list may be
-pub body-short : (f b : List ℕ) (start next : ℕ) → next ≤ start + 4 + 4 * greatestTerms → b ≡ bodyAt f start next → length b < 65536
-body-short f b start next h e = omega (arith, ap length e, length-take (next - 4 - start) (drop start f))
+-- a body no longer than a list may be has fewer bytes than two bytes can count
+pub short-body : (f b : List ℕ) (start next : ℕ) → next ≤ start + 4 + 4 * greatestTerms → b ≡ bodyAt f start next → length b < 65536
+short-body f b start next h e = omega (arith, ap length e, length-take (next - 4 - start) (drop start f))
 
 pub stages-length : (f : List ℕ) (y : Layout) → Describes f y → length (meaning f .stages) ≡ y .head .k
 stages-length f y d = let r = described d in r .formed .count ∙ sym (r .k)

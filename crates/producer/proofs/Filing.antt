@@ -50,8 +50,8 @@ module _ (rule : List ℕ) (m s words room : ℕ) (g : Gathers rule m s words ro
 pub terms-fit : (count : ℕ) → count ≤ greatestTerms → Fits w64 (4 * count)
 terms-fit count l = record { fits = omega arith }
 
-pub body-short : (count : ℕ) → count ≤ greatestTerms → 4 * count < 65536
-body-short count l = omega arith
+pub short-list : (count : ℕ) → count ≤ greatestTerms → 4 * count < 65536
+short-list count l = omega arith
 
 pub bound-more : (size count r i : ℕ) → size ≤ i * listMost → count ≤ greatestTerms → r ≡ 4 + 4 * count → size + r ≤ (i + 1) * listMost
 bound-more size count r i b l e = omega arith

@@ -6,7 +6,7 @@ use lib.ListN.{length, getD, take}
 use Rattle.direct.specs.Direct.{directLists}
 use Rattle.producer.specs.inside.Filing.{listMost}
 use Rattle.records.specs.inside.Overwriting.{listRecords}
-use Rattle.producer.proofs.Filing.{none-counted, bits-fit, some-bit, bit-within, gathers-still, turn-fits, size-fits, terms-fit, body-short, bound-more, size-bound}
+use Rattle.producer.proofs.Filing.{none-counted, bits-fit, some-bit, bit-within, gathers-still, turn-fits, size-fits, terms-fit, short-list, bound-more, size-bound}
 use Rattle.producer.proofs.Writing.{size-more, size-all}
 use Rattle.producer.proofs.file.lists_size.Statement.{statement}
 use Rattle.producer.proofs.file.lists_size.Tie as tie
@@ -37,7 +37,7 @@ mul-record-size : tie.Need-mul-record-size Inv-loop μ-loop
 mul-record-size c = search terms-fit
 
 record-size-requires : tie.Need-record-size-requires Inv-loop μ-loop
-record-size-requires c κs = search body-short
+record-size-requires c κs = search short-list
 
 add-size : tie.Need-add-size Inv-loop μ-loop
 add-size c = search size-fits

@@ -5,7 +5,7 @@ use native.Mathlib.Omega.{arith}
 use lib.ListN.{length, getD, take}
 use Rattle.records.specs.inside.Overwriting.{overwrite, listRecords}
 use Rattle.direct.specs.Direct.{directLists}
-use Rattle.producer.proofs.Filing.{none-before, no-list, bits-fit, some-bit, bit-within, gathers-still, turn-fits, terms-within, body-short}
+use Rattle.producer.proofs.Filing.{none-before, no-list, bits-fit, some-bit, bit-within, gathers-still, turn-fits, terms-within, short-list}
 use Rattle.producer.proofs.Writing.{at-more, at-all, list-room, lists-more, lists-all}
 use Rattle.producer.proofs.file.put_lists.Statement.{statement}
 use Rattle.producer.proofs.file.put_lists.Tie as tie
@@ -34,7 +34,7 @@ gather-requires : tie.Need-gather-requires Inv-loop μ-loop
 gather-requires c κs = (search bit-within, search gathers-still)
 
 put-list-requires : tie.Need-put-list-requires Inv-loop μ-loop
-put-list-requires c κs = (search list-room, search terms-within, search body-short)
+put-list-requires c κs = (search list-room, search terms-within, search short-list)
 
 add-i : tie.Need-add-i Inv-loop μ-loop
 add-i c = search turn-fits
