@@ -2,9 +2,9 @@
  * Jestrunas: judges threshold-implementation sharings of S-boxes.
  *
  * A design file states an S-box S of m bits, s shares for each value and a chain of k stages, each with a table G and
- * one list of products for every output bit of every component. The library reads such a file, gives a verdict on it,
- * runs it on given shares, and produces one from a table. Shares, components and stages are numbered from 1, bits and
- * bytes from 0.
+ * one list of products for every output bit of every component. The library reads such a file, forecasts what a verdict
+ * on it takes, gives that verdict, runs it on given shares, and produces one from a table. Shares, components and stages
+ * are numbered from 1, bits and bytes from 0.
  *
  * What a caller owes, for every function here: a pointer and the length after it are a buffer of that many readable
  * bytes (an output or a workspace: writable too), and no buffer that is written to overlaps another of the same call.
@@ -40,8 +40,8 @@ extern "C" {
 
 /* The reasons. Each is given by the operations named after it. */
 #define JESTRUNAS_ACCEPTED 0             /* judge: the design is accepted */
-#define JESTRUNAS_OK 0                   /* read, run, produce, passages: done, with no verdict on the design */
-/* Refusals of reading: read, judge, run. */
+#define JESTRUNAS_OK 0                   /* read, forecast, run, produce, passages: done, with no verdict on the design */
+/* Refusals of reading: read, judge, run; those of the head record, 1 to 4, forecast too. */
 #define JESTRUNAS_CUT_SHORT 1            /* a record's head or its body is cut short */
 #define JESTRUNAS_WRONG_KIND 2           /* a record's kind is not the one due */
 #define JESTRUNAS_WRONG_LENGTH 3         /* a record's length is not the one due; produce, passages: the table's length */
@@ -64,7 +64,7 @@ extern "C" {
 #define JESTRUNAS_INPUT_TOO_LONG 18      /* the verdict program only: its input exceeds 32,768 bytes */
 
 /*
- * The answer of reading and of the verdict.
+ * The answer of reading, and the three numbers of a verdict.
  * Reason 0: place is 0 for reading and k, the number of stages, for the verdict; component 0.
  * Reasons 1 to 7: place is the first byte of the record at fault (for 7, the first byte after the end), component 0.
  * Reasons 8, 9, 10: 0, 0. Reasons 11 to 14: place is the stage; component is 0 but for 13.
@@ -74,6 +74,36 @@ typedef struct {
     size_t place;
     size_t component;
 } jestrunas_verdict_t;
+
+/*
+ * The answer of judging: the three numbers of the verdict, and the trials that it took. A trial puts one sharing through
+ * one stage. A stage is tried for correctness, on the sharings as numbers from 0, share 1 in the lowest bits, up to the
+ * first that is wrong; then for uniformity, in the same order, up to the first whose output sharing was met already. The
+ * trial that ends a pass counts. Non-completeness is looked up in the lists and takes none. By reason, N being 2^(m * s):
+ *
+ *   0               2 * k * N
+ *   1 to 11         0
+ *   12 at stage i   2 * (i - 1) * N + the trials of its correctness
+ *   13 at stage i   (2 * (i - 1) + 1) * N
+ *   14 at stage i   (2 * (i - 1) + 1) * N + the trials of its uniformity
+ */
+typedef struct {
+    size_t reason;
+    size_t place;
+    size_t component;
+    size_t trials;
+} jestrunas_judged_t;
+
+/*
+ * The answer of a forecast.
+ * Reason 0: workspace is the bytes that the verdict needs, 2^(m * s) / 8; trials is the most that it takes,
+ * 2 * k * 2^(m * s), which every accepted design takes. Reasons 1 to 4: 0, 0.
+ */
+typedef struct {
+    size_t reason;
+    size_t workspace;
+    size_t trials;
+} jestrunas_forecast_t;
 
 /* A sharing: share j at share[j - 1], those after s zero. */
 typedef struct {
@@ -99,12 +129,20 @@ typedef struct {
 jestrunas_verdict_t jestrunas_read(const uint8_t *file, size_t file_len);
 
 /*
+ * What a verdict on a design file takes, without judging. The head record, the first seven bytes, decides it, whatever
+ * follows, also nothing: 0 where reading finds no fault there, otherwise reading's refusal of that record, the first of
+ * 1 (its head is cut short), 2, 3, 1 (its body is cut short) and 4. The file is only read.
+ */
+jestrunas_forecast_t jestrunas_forecast(const uint8_t *file, size_t file_len);
+
+/*
  * The verdict on a design file: 0, k, 0 exactly when the file reads, S is a permutation, the workspace is enough, the
- * chain of tables is S, and every stage is correct, non-complete and uniform; otherwise the first fault (1 to 14).
+ * chain of tables is S, and every stage is correct, non-complete and uniform; otherwise the first fault (1 to 14). And
+ * its trials, which are never more than the forecast's.
  * With reasons 1 to 9 the workspace is untouched; otherwise its first 2^(m * s) / 8 bytes are zero afterwards and the
  * rest is untouched. It may hold anything before. The file is only read.
  */
-jestrunas_verdict_t jestrunas_judge(const uint8_t *file, size_t file_len, uint8_t *workspace, size_t workspace_len);
+jestrunas_judged_t jestrunas_judge(const uint8_t *file, size_t file_len, uint8_t *workspace, size_t workspace_len);
 
 /*
  * Runs the chain of a design file on the given shares. Answers 0 and the output shares of the last stage, unused ones

@@ -20,6 +20,7 @@ static ucontext_t here, there;
 
 static void call_nothing(void) { __asm__ volatile("" ::: "memory"); }
 static void call_read(void) { jestrunas_read(file, file_len); }
+static void call_forecast(void) { jestrunas_forecast(file, file_len); }
 static void call_judge(void) { jestrunas_judge(file, file_len, workspace, sizeof workspace); }
 static void call_run(void) { jestrunas_run(file, file_len, given); }
 static void call_produce(void) { jestrunas_produce(width, shares, table, table_len, output, sizeof output); }
@@ -46,13 +47,14 @@ static struct {
     size_t most;
 } operations[] = {
     {"read", call_read, 0},
+    {"forecast", call_forecast, 0},
     {"judge", call_judge, 0},
     {"run", call_run, 0},
     {"produce", call_produce, 0},
     {"to_coefficients", call_to_coefficients, 0},
     {"to_table", call_to_table, 0},
 };
-enum { READ, JUDGE, RUN, PRODUCE, TO_COEFFICIENTS, TO_TABLE, COUNT };
+enum { READ, FORECAST, JUDGE, RUN, PRODUCE, TO_COEFFICIENTS, TO_TABLE, COUNT };
 
 static void measure(int i) {
     size_t bytes = changed(operations[i].call);
@@ -70,6 +72,7 @@ static void measure_file(const char *name) {
     fclose(f);
     for (file_len = 0; file_len <= whole; file_len++) {
         measure(READ);
+        measure(FORECAST);
         measure(JUDGE);
         measure(RUN);
     }

@@ -1,12 +1,11 @@
 /*
- * Judges the design file named on the command line and prints reason, place and component.
- * The exit status is 0 when the design is accepted, 1 when it is refused, 2 when the file cannot be had.
+ * Judges the design file named on the command line, in a workspace as large as the forecast says, and prints reason, place
+ * and component; on standard error the forecast and, after the verdict, its trials.
+ * The exit status is 0 when the design is accepted, 1 when it is refused, 2 when the file or the workspace cannot be had.
  */
 #include "jestrunas.h"
 #include <stdio.h>
 #include <stdlib.h>
-
-static uint8_t workspace[JESTRUNAS_WORKSPACE_MAX];
 
 /* The bytes of a file and their number, or NULL. */
 static uint8_t *contents(const char *name, size_t *length) {
@@ -36,8 +35,18 @@ int main(int argc, char **argv) {
         fprintf(stderr, "usage: judge FILE\n");
         return 2;
     }
-    jestrunas_verdict_t v = jestrunas_judge(file, length, workspace, sizeof workspace);
+    jestrunas_forecast_t f = jestrunas_forecast(file, length);
+    fprintf(stderr, "forecast: reason %zu, workspace %zu, trials %zu\n", f.reason, f.workspace, f.trials);
+    uint8_t *workspace = f.workspace ? (uint8_t *)malloc(f.workspace) : NULL;
+    if (f.workspace && !workspace) {
+        fprintf(stderr, "judge: no %zu bytes of workspace\n", f.workspace);
+        free(file);
+        return 2;
+    }
+    jestrunas_judged_t v = jestrunas_judge(file, length, workspace, f.workspace);
     printf("%zu %zu %zu\n", v.reason, v.place, v.component);
+    fprintf(stderr, "trials: %zu\n", v.trials);
+    free(workspace);
     free(file);
     return v.reason == JESTRUNAS_ACCEPTED ? 0 : 1;
 }

@@ -46,7 +46,8 @@ fn small(n: usize) -> usize
 
 // The verdict on a file, printed and counted.
 fn judge_file(file: &[u8], workspace: &mut [u8], tally: Tally) -> Tally {
-    let v = checker::judge(file, workspace);
+    let judged = checker::judge(file, workspace);
+    let v = judged.verdict;
     print(b" verdict ");
     print_number(v.reason);
     print(b" ");

@@ -1,4 +1,4 @@
--- Whether a stage is correct: the laws of `agrees`, `all_agree` and `correct_stage`, at each way out and for a turn, over plain values.
+-- The pass that tries whether a stage is correct: the laws of `agrees`, `try_sums` and `try_correctness`, at each way out and for a turn, over plain values.
 -- Assumes nothing.
 use mathlib.Core.Path.{_≡_, refl, sym, ap, ap₂, _∙_}
 use mathlib.Core.List.{List}
@@ -7,20 +7,22 @@ use Prim.Native.Nat.{ℕ, _+_, _*_, _^_, _<_, _≤_}
 use native.Mathlib.Omega.{arith}
 use lib.Dec.{eqb}
 use lib.ListN.{getD}
-use borrow.Author.Tests.{not-true, not-false}
 use borrow.Rule.Slice.Know.{Fit}
 use borrow.Table.Referent.{fInt}
 use mir.Syntax.{w8}
-use Rattle.finite.specs.Tests.{all}
-use Rattle.finite.proofs.Testing.{all-more, all-fails}
+use Rattle.finite.specs.Tests.{any}
+use Rattle.finite.proofs.Testing.{any-none-more}
 use Rattle.design.specs.Design.{stageOf}
 use Rattle.design.specs.Reading.{meaning, numberOf}
 use Rattle.design.specs.inside.Described.{Describes}
 use Rattle.design.specs.inside.StageLists.{listsOf}
 use Rattle.design.specs.declared.Layout.{Layout}
 use Rattle.threshold.specs.Sharing.{sum}
-use Rattle.threshold.specs.Stages.{output, correct}
-use Rattle.checker.specs.inside.Parts.{agreeing}
+use Rattle.threshold.specs.Stages.{output}
+use Rattle.checker.specs.Trials.{sumsWrong}
+use Rattle.checker.specs.inside.Parts.{stoppedAt, endedAfter, correctnessPass, stageFrom}
+use Rattle.checker.specs.declared.stages.Pass.{Pass}
+use Rattle.checker.proofs.Passes.{pass-stopped, pass-ended}
 use Rattle.checker.proofs.StageFacts.{stage-stands}
 
 -- ---- `agrees`: v and w are the sums
@@ -31,32 +33,34 @@ sums-agree table m s x y v w e q = ap₂ (λ (a b : ℕ). eqb a (getD table b 0)
 pub byte-fits : (table : List ℕ) (i : ℕ) → Fit (fInt w8) 0 table → getD table i 0 < 2 ^ 32
 byte-fits table i bytes = omega (arith, bytes i)
 
--- ---- `all_agree`: x sharings are tried, of n; y is the output of the next, r whether it is right
+-- ---- `try_sums`: x sharings are tried, of n, and none is wrong; y is the output of the next, r whether it is right
 
-module _ (m s : ℕ) (ls : List (List ℕ)) (b : List ℕ) where
-  pub agree-start : agreeing m s ls b 0 ≡ true
-  unfolding agreeing all
-  agree-start = refl
+module _ (m s : ℕ) (b : List ℕ) (ls : List (List ℕ)) where
+  pub sums-start : any 0 (sumsWrong m s (stageFrom b ls)) ≡ false
+  unfolding any
+  sums-start = refl
 
-  module _ (x : ℕ) (r : Bool) where
-    pub agree-wrong : not r ≡ true → (n : ℕ) → x < n → n ≡ 2 ^ (m * s) → (y : ℕ) → r ≡ eqb (sum m s y) (getD b (sum m s x) 0) → y ≡ output ls x
-        → false ≡ agreeing m s ls b (2 ^ (m * s))
-    unfolding agreeing
-    agree-wrong q n h k y e o =
-        sym (all-fails (2 ^ (m * s)) _ x (omega arith) (ap (λ (z : ℕ). eqb (sum m s z) (getD b (sum m s x) 0)) (sym o) ∙ sym e ∙ not-true r q))
+  module _ (x : ℕ) (so : any x (sumsWrong m s (stageFrom b ls)) ≡ false) (n : ℕ) (k : n ≡ 2 ^ (m * s)) where
+    module _ (r : Bool) (y : ℕ) (e : r ≡ eqb (sum m s y) (getD b (sum m s x) 0)) (o : y ≡ output ls x) where
+      next : sumsWrong m s (stageFrom b ls) x ≡ not r
+      next = ap not (ap (λ (z : ℕ). eqb (sum m s z) (getD b (sum m s x) 0)) (sym o) ∙ sym e)
 
-    pub agree-more : not r ≡ false → agreeing m s ls b x ≡ true → (y : ℕ) → r ≡ eqb (sum m s y) (getD b (sum m s x) 0) → y ≡ output ls x → agreeing m s ls b (x + 1) ≡ true
-    unfolding agreeing
-    agree-more q so y e o = all-more x _ so (ap (λ (z : ℕ). eqb (sum m s z) (getD b (sum m s x) 0)) (sym o) ∙ sym e ∙ not-false r q)
+      pub sums-wrong : not r ≡ true → x < n → (v : Pass) → v ≡ stoppedAt x → v ≡ correctnessPass m s (stageFrom b ls)
+      sums-wrong q h v is = is ∙ pass-stopped (2 ^ (m * s)) _ x (omega arith) so (next ∙ q)
 
-  pub agree-end : (x n : ℕ) → x ≤ n → n ≤ x → n ≡ 2 ^ (m * s) → agreeing m s ls b x ≡ true → true ≡ agreeing m s ls b (2 ^ (m * s))
-  agree-end x n a c k so = let z : x ≡ 2 ^ (m * s) = omega arith in sym (rw z at so)
+      pub sums-more : not r ≡ false → any (x + 1) (sumsWrong m s (stageFrom b ls)) ≡ false
+      sums-more q = any-none-more x _ so (next ∙ q)
 
--- ---- `correct_stage`: the lists, the first of them numbered so, and the table are the stage's
+    pub sums-end : x ≤ n → n ≤ x → (v : Pass) → v ≡ endedAfter n → v ≡ correctnessPass m s (stageFrom b ls)
+    sums-end a c v is =
+        let z : x ≡ 2 ^ (m * s) = omega arith in
+        is ∙ ap endedAfter k ∙ pass-ended (2 ^ (m * s)) _ (rw z at so)
+
+-- ---- `try_correctness`: the lists, the first of them numbered so, and the table are the stage's
 
 module _ (f : List ℕ) (l : Layout) (t : ℕ) (h : t < l .head .k) (d : Describes f l) (first : ℕ) (e : first ≡ numberOf (l .head) t 1) (bytes : Fit (fInt w8) 0 f) where
-  pub stage-agrees : (b : List ℕ) → b ≡ stageOf (meaning f) t .table → (r : Bool)
-      → r ≡ agreeing (l .head .m) (l .head .s) (listsOf f (l .starts) first (l .head .m * l .head .s)) b (2 ^ (l .head .m * l .head .s))
-      → r ≡ correct (l .head .m) (l .head .s) (stageOf (meaning f) t)
-  unfolding agreeing correct
-  stage-agrees b p r q = q ∙ ap₂ (λ (u : List (List ℕ)) (v : List ℕ). agreeing (l .head .m) (l .head .s) u v (2 ^ (l .head .m * l .head .s))) (stage-stands f l t h d first e bytes .all) p
+  pub stage-agrees : (b : List ℕ) → b ≡ stageOf (meaning f) t .table → (v : Pass)
+      → v ≡ correctnessPass (l .head .m) (l .head .s) (stageFrom b (listsOf f (l .starts) first (l .head .m * l .head .s)))
+      → v ≡ correctnessPass (l .head .m) (l .head .s) (stageOf (meaning f) t)
+  stage-agrees b p v q =
+      q ∙ ap₂ (λ (x : List ℕ) (y : List (List ℕ)). correctnessPass (l .head .m) (l .head .s) (stageFrom x y)) p (stage-stands f l t h d first e bytes .all)

@@ -1,8 +1,8 @@
--- Every bench row of the verdict and of running, by computing.
+-- Every bench row of the verdict, the forecast and running, by computing.
 use mathlib.Core.Path.{_≡_, refl}
 use mathlib.Core.List.{map}
 use Prim.Native.Nat.{ℕ}
-use Rattle.finite.specs.Tests.{any, first, total}
+use Rattle.finite.specs.Tests.{any, first, tried, total}
 use Rattle.finite.specs.Sums.{xorBelow}
 use Rattle.finite.specs.Sets.{subset}
 use Rattle.finite.specs.Maps.{repeats, metBefore}
@@ -17,7 +17,8 @@ use Rattle.threshold.specs.Stages.{output, correct, readsOwn, nonComplete, shar
 use Rattle.threshold.specs.Chain.{chained, handed}
 use Rattle.threshold.specs.Running.{packed, unpacked, shareFits, sharesFit, runningOn, running}
 use Rattle.checker.specs.Verdict.{chainIsBox, firstRepeating, stagesFaults, judged, judgedReading, verdict}
-use Rattle.checker.specs.Bench.{rows, runs}
+use Rattle.checker.specs.Trials.{bothPasses, trialsOf, trials, judging, forecast}
+use Rattle.checker.specs.Bench.{rows, forecasts, runs}
 
 -- the definitions that computing opens: of a file that is written,
 unfoldable writing : ℕ
@@ -29,18 +30,22 @@ unfoldable sharing : ℕ
 unfolding any first total xorBelow subset valueAt share sum setting putShare output correct readsOwn nonComplete sharingsTo uniform
 sharing = 0
 
--- of the verdict, and of a run
-unfoldable judging : ℕ
-unfolding computing writing sharing repeats metBefore chained chainIsBox firstRepeating firstFault stagesFaults judged judgedReading verdict
-judging = 0
+-- of the verdict with its trials, and of a run
+unfoldable deciding : ℕ
+unfolding computing writing sharing repeats metBefore chained chainIsBox firstRepeating firstFault stagesFaults judged judgedReading verdict tried bothPasses trialsOf trials judging
+deciding = 0
 
 unfoldable sending : ℕ
 unfolding computing writing sharing handed packed unpacked shareFits sharesFit runningOn running
 sending = 0
 
-pub bench-verdicts : map (λ r. verdict (r .file) (r .workspace)) rows ≡ map (λ r. r .answer) rows
-unfolding judging
+pub bench-verdicts : map (λ r. judging (r .file) (r .workspace)) rows ≡ map (λ r. r .answer) rows
+unfolding deciding
 bench-verdicts = refl
+
+pub bench-forecasts : map (λ r. forecast (r .file)) forecasts ≡ map (λ r. r .answer) forecasts
+unfolding computing forecast
+bench-forecasts = refl
 
 pub bench-runs : map (λ r. running (r .file) (r .shares)) runs ≡ map (λ r. r .answer) runs
 unfolding sending

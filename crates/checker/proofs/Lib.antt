@@ -1,6 +1,7 @@
--- Laws of the verdict.
+-- Laws of the verdict, its trials and their forecast.
 pub mod Workspace
 pub mod StageFacts
+pub mod Passes
 pub mod Marking
 pub mod Repeating
 pub mod Composing
@@ -9,6 +10,8 @@ pub mod OwnShare
 pub mod Steps
 pub mod JudgingStages
 pub mod JudgingDesign
+pub mod Forecasting
 pub mod Exactly
 pub mod Assurance
+pub mod Trials
 pub mod Bench

@@ -1,4 +1,4 @@
--- Marks: marking y marks y and nothing else. A run of marks meets one twice exactly when two outputs are equal.
+-- Marks: marking y marks y and nothing else. A pass that marks outputs meets a mark exactly where an output was met before.
 -- Assumes nothing.
 use mathlib.Core.Path.{_≡_, refl, sym, ap, _∙_, subst}
 use mathlib.Core.List.{List, _++_}
@@ -18,8 +18,8 @@ use borrow.Rule.Slice.Know.{Fit}
 use borrow.Table.Referent.{fInt}
 use mir.Syntax.{w8}
 use Rattle.finite.specs.Tests.{any}
-use Rattle.finite.specs.Maps.{repeats, metBefore}
-use Rattle.finite.proofs.Testing.{or-right, any-at, any-step, or-false-right}
+use Rattle.finite.specs.Maps.{metBefore}
+use Rattle.finite.proofs.Testing.{or-right, any-step, any-none-more, or-false-right}
 use Rattle.finite.specs.Sets.{has}
 use Rattle.finite.proofs.Elements.{has-none, has-with, has-with-other}
 use Rattle.finite.proofs.Powers.{eights}
@@ -31,6 +31,9 @@ use Rattle.design.specs.Design.{stageOf}
 use Rattle.threshold.specs.Stages.{output}
 use Rattle.checker.specs.Verdict.{zeroed}
 use Rattle.checker.specs.inside.Marks.{marked, mark, Clear, markBytes}
+use Rattle.checker.specs.inside.Parts.{stoppedAt, endedAfter, pass, uniformityPass}
+use Rattle.checker.specs.declared.stages.Pass.{Pass}
+use Rattle.checker.proofs.Passes.{pass-stopped, pass-ended}
 use Rattle.checker.proofs.StageFacts.{enough-bits, stage-stands}
 
 -- marking y marks y and nothing else
@@ -88,14 +91,14 @@ pub record MarkedTo (n : ℕ) (g : ℕ → ℕ) (l₀ l : List ℕ) (i : ℕ) : 
   pub most : i ≤ n
   pub long : length l ≡ length l₀
   pub rest : drop (n / 8) l ≡ drop (n / 8) l₀
-  pub once : repeats i g ≡ false
+  pub once : any i (metBefore g) ≡ false
   pub met : (y : ℕ) → y < n → marked l y ≡ any i (λ j. eqb (g j) y)
 
 pub marked-start : (n : ℕ) (g : ℕ → ℕ) (l : List ℕ) → Clear n l → MarkedTo n g l l 0
-unfolding repeats any
+unfolding any
 marked-start n g l k = record { most = omega arith; long = refl; rest = refl; once = refl; met = k }
 
--- `mark_all`, at each way out and for a turn: k tries are made, y is the output of try i, q whether it was marked before, l₁ the marks with it
+-- `try_marks`, at each way out and for a turn: k tries are made, y is the output of try i, q whether it was marked before, l₁ the marks with it
 module _ (e : ℕ) (g : ℕ → ℕ) (l₀ l : List ℕ) (i : ℕ) (r : MarkedTo (2 ^ e) g l₀ l i) (k : ℕ) where
   module _ (more : i < k) (ek : k ≡ 2 ^ e) (y : ℕ) (below : y < 2 ^ e) (here : y ≡ g i) (low : 3 ≤ e) (room : 2 ^ e / 8 ≤ length l₀) where
     within : y / 8 < 2 ^ e / 8
@@ -110,36 +113,37 @@ module _ (e : ℕ) (g : ℕ → ℕ) (l₀ l : List ℕ) (i : ℕ) (r : MarkedTo
     marked-inside = let w = within in let h = r .long in omega arith
 
     -- a mark that is met is an earlier output
-    pub marked-found : (q : Bool) → q ≡ true → q ≡ marked l y → true ≡ repeats (2 ^ e) g
-    unfolding repeats
-    marked-found q h m = sym (any-at (2 ^ e) _ i (omega arith) (sym seen ∙ sym m ∙ h))
+    pub marked-found : (q : Bool) → q ≡ true → q ≡ marked l y → (v : Pass) → v ≡ stoppedAt i → v ≡ pass (2 ^ e) (metBefore g)
+    marked-found q h m v is = is ∙ pass-stopped (2 ^ e) (metBefore g) i (omega arith) (r .once) (sym seen ∙ sym m ∙ h)
 
     pub marked-rest : (l₁ : List ℕ) → l₁ ≡ mark l y → drop (2 ^ e / 8) l₁ ≡ drop (2 ^ e / 8) l₀
     marked-rest l₁ m = ap (drop (2 ^ e / 8)) m ∙ mark-drop l (2 ^ e / 8) y within ∙ r .rest
 
     pub marked-step : (q : Bool) → q ≡ false → q ≡ marked l y → (l₁ : List ℕ) → l₁ ≡ mark l y → MarkedTo (2 ^ e) g l₀ l₁ (i + 1)
-    unfolding repeats
     marked-step q h m l₁ is = record {
       most = omega arith;
       long = ap length is ∙ mark-length l y ∙ r .long;
       rest = marked-rest l₁ is;
-      once = rw (any-step, r .once, ← seen) (sym m ∙ h);
+      once = any-none-more i (metBefore g) (r .once) (sym seen ∙ sym m ∙ h);
       met = λ z b.
           ap (λ (w : List ℕ). marked w z) is ∙ mark-marks l y z marked-inside ∙ ap (λ (a : Bool). a || eqb y z) (r .met z b)
           ∙ ap (λ (w : ℕ). any i (λ j. eqb (g j) z) || eqb w z) here ∙ sym (any-step i (λ j. eqb (g j) z));
     }
 
   module _ (less : k ≤ i) (ek : k ≡ 2 ^ e) where
-    pub marked-none : false ≡ repeats (2 ^ e) g
-    marked-none = let h = r .most in let z : i ≡ 2 ^ e = omega arith in sym (rw z at (r .once))
+    pub marked-none : (v : Pass) → v ≡ endedAfter k → v ≡ pass (2 ^ e) (metBefore g)
+    marked-none v is =
+        let h = r .most in
+        let z : i ≡ 2 ^ e = omega arith in
+        is ∙ ap endedAfter ek ∙ pass-ended (2 ^ e) (metBefore g) (rw z at (r .once))
 
--- ---- `meets_twice`: zeroed bytes mark nothing, and the lists are the stage's
+-- ---- `try_uniformity`: zeroed bytes mark nothing, and the lists are the stage's
 
 module _ (f : List ℕ) (l : Layout) (d : Describes f l) where
   pub none-marked : (ws : List ℕ) → zeroed (markBytes l) ws ≡ ws → Clear (2 ^ (l .head .m * l .head .s)) ws
   none-marked ws e = clear-none (2 ^ (l .head .m * l .head .s)) ws (drop (markBytes l) ws) (eights _ (enough-bits f l d)) (sym e)
 
 module _ (f : List ℕ) (l : Layout) (t : ℕ) (h : t < l .head .k) (d : Describes f l) (first : ℕ) (e : first ≡ numberOf (l .head) t 1) (bytes : Fit (fInt w8) 0 f) where
-  pub stage-meets : (r : Bool) → r ≡ repeats (2 ^ (l .head .m * l .head .s)) (output (listsOf f (l .starts) first (l .head .m * l .head .s)))
-      → r ≡ repeats (2 ^ (l .head .m * l .head .s)) (output (stageOf (meaning f) t .lists))
-  stage-meets r q = q ∙ ap (λ (u : List (List ℕ)). repeats (2 ^ (l .head .m * l .head .s)) (output u)) (stage-stands f l t h d first e bytes .all)
+  pub stage-meets : (v : Pass) → v ≡ pass (2 ^ (l .head .m * l .head .s)) (metBefore (output (listsOf f (l .starts) first (l .head .m * l .head .s))))
+      → v ≡ uniformityPass (l .head .m) (l .head .s) (stageOf (meaning f) t)
+  stage-meets v q = q ∙ ap (λ (u : List (List ℕ)). pass (2 ^ (l .head .m * l .head .s)) (metBefore (output u))) (stage-stands f l t h d first e bytes .all)

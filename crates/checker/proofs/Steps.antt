@@ -17,11 +17,11 @@ use Rattle.checker.specs.declared.Verdict.{Verdict}
 
 -- what stage t answers, where those after it answer `onward`
 abbrev pub stageThen : Design → ℕ → Verdict → Verdict
-stageThen d t onward = firstFault (stageFaults answer d (t + 1) (stageOf d t)) onward
+stageThen d t onward = firstFault (stageFaults d (t + 1) (stageOf d t)) onward
 
 -- what the stages from t on answer
 abbrev pub stagesFrom : Design → ℕ → Verdict
-stagesFrom d t = firstFault (stagesFaults answer d (t + 1) (drop t (d .stages))) (answer 0 (d .k) 0)
+stagesFrom d t = firstFault (stagesFaults d (t + 1) (drop t (d .stages))) (answer 0 (d .k) 0)
 
 module _ (d : Design) where
   pub stages-all : stagesJudged d ≡ stagesFrom d 0
@@ -35,13 +35,13 @@ module _ (d : Design) where
   module _ (t : ℕ) where
     pub stages-next : t < length (d .stages) → stagesFrom d t ≡ stageThen d t (stagesFrom d (t + 1))
     unfolding stagesFaults
-    stages-next h = rw (drop-cons (d .stages) t noStage h) (fault-append (stageFaults answer d (t + 1) (stageOf d t)) _ _ ∙ simp add-one refl)
+    stages-next h = rw (drop-cons (d .stages) t noStage h) (fault-append (stageFaults d (t + 1) (stageOf d t)) _ _ ∙ simp add-one refl)
 
     -- a stage with a fault answers its own, whatever those after it do
     pub stage-fault : (onward : Verdict) → (stageJudged d t .reason ≡ 0 → ⊥) → stageThen d t onward ≡ stageJudged d t
     unfolding stageJudged
     stage-fault onward n =
-        ⊎-elim (λ none. absurd (n (ap (λ (v : Verdict). v .reason) (none (answer 0 0 0))))) (λ same. same onward (answer 0 0 0)) (some-or-none (stageFaults answer d (t + 1) (stageOf d t)))
+        ⊎-elim (λ none. absurd (n (ap (λ (v : Verdict). v .reason) (none (answer 0 0 0))))) (λ same. same onward (answer 0 0 0)) (some-or-none (stageFaults d (t + 1) (stageOf d t)))
 
     -- a stage without fault leaves the answer to those after it
     pub stage-fine : (onward : Verdict) → stageJudged d t .reason ≡ 0 → stageThen d t onward ≡ onward

@@ -34,11 +34,11 @@ module _ (d : Design) (reason : ℕ) (ws : List ℕ) where
 abbrev Late : Verdict → Type 0
 Late v = (v .reason ≡ 0) ⊎ (10 ≤ v .reason)
 
-late-stages : (d : Design) (i : ℕ) (gs : List Stage) → Late (firstFault (stagesFaults answer d i gs) (answer 0 (d .k) 0))
+late-stages : (d : Design) (i : ℕ) (gs : List Stage) → Late (firstFault (stagesFaults d i gs) (answer 0 (d .k) 0))
 unfolding stagesFaults
 late-stages d i [] = rw (fault-none (answer 0 (d .k) 0)) (inl refl)
 late-stages d i (g ∷ gs) =
-    rw (fault-append (stageFaults answer d i g) (stagesFaults answer d (suc i) gs) (answer 0 (d .k) 0))
+    rw (fault-append (stageFaults d i g) (stagesFaults d (suc i) gs) (answer 0 (d .k) 0))
     (fault-either Late _ _ _ _ (λ e. inr (omega arith))
     (λ e. fault-either Late _ _ _ _ (λ e. inr (omega arith))
     (λ e. fault-either Late _ _ _ _ (λ e. inr (omega arith)) (λ e. rw fault-none (late-stages d (suc i) gs)))))

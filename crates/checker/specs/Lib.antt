@@ -1,5 +1,6 @@
--- The verdict.
+-- The verdict, its trials and their forecast.
 pub mod Verdict
+pub mod Trials
 pub mod Accepted
 pub mod Assurance
 pub mod Bench

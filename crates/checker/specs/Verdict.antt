@@ -34,41 +34,41 @@ tableRepeats d t = repeats (2 ^ d .m) (entry (stageOf d t .table))
 unfoldable pub firstRepeating : Design → ℕ
 firstRepeating d = first (d .k) (tableRepeats d)
 
--- ---- The faults in the published order, read from the top: each a test, with what is given for its reason, place and component where it finds a fault.
+-- ---- The faults in the published order, read from the top: each a test, with what is answered where it finds a fault.
 
-module _ {A : Type 0} (give : ℕ → ℕ → ℕ → A) (d : Design) where
+module _ (d : Design) where
   -- of stage number i
-  abbrev pub stageFaults : ℕ → Stage → List (Bool × A)
+  abbrev pub stageFaults : ℕ → Stage → List (Bool × Verdict)
   stageFaults i g =
       -- not correct
-      (not (correct (d .m) (d .s) g), give 12 i 0) ∷
+      (not (correct (d .m) (d .s) g), answer 12 i 0) ∷
       -- not non-complete, with the lowest such component
-      (not (nonComplete (d .m) (d .s) g), give 13 i (first (d .s) (readsOwn (d .m) (d .s) g) + 1)) ∷
+      (not (nonComplete (d .m) (d .s) g), answer 13 i (first (d .s) (readsOwn (d .m) (d .s) g) + 1)) ∷
       -- not uniform
-      (not (uniform (d .m) (d .s) g), give 14 i 0) ∷
+      (not (uniform (d .m) (d .s) g), answer 14 i 0) ∷
       []
 
   -- stage by stage, from number i on
-  unfoldable pub stagesFaults : ℕ → List Stage → List (Bool × A)
+  unfoldable pub stagesFaults : ℕ → List Stage → List (Bool × Verdict)
   stagesFaults i [] = []
   stagesFaults i (g ∷ gs) = stageFaults i g ++ stagesFaults (suc i) gs
 
   -- of a design, with a workspace of n bytes
-  abbrev pub faults : ℕ → List (Bool × A)
+  abbrev pub faults : ℕ → List (Bool × Verdict)
   faults n =
       -- S repeats an entry
-      (repeats (2 ^ d .m) (entry (d .box)), give 8 0 0) ∷
+      (repeats (2 ^ d .m) (entry (d .box)), answer 8 0 0) ∷
       -- the workspace is too small
-      (ltb n (workspaceFor (d .m) (d .s)), give 9 0 0) ∷
+      (ltb n (workspaceFor (d .m) (d .s)), answer 9 0 0) ∷
       -- the chain of tables is not S
-      (not (chainIsBox d), give 10 0 0) ∷
+      (not (chainIsBox d), answer 10 0 0) ∷
       -- a table repeats an entry, with the first such stage
-      (any (d .k) (tableRepeats d), give 11 (firstRepeating d + 1) 0) ∷
+      (any (d .k) (tableRepeats d), answer 11 (firstRepeating d + 1) 0) ∷
       stagesFaults 1 (d .stages)
 
 -- the verdict on a design, with a workspace of n bytes
 unfoldable pub judged : Design → ℕ → Verdict
-judged d n = firstFault (faults answer d n) (answer 0 (d .k) 0)
+judged d n = firstFault (faults d n) (answer 0 (d .k) 0)
 
 -- first the refusals of reading
 unfoldable pub judgedReading : Reading → ℕ → Verdict

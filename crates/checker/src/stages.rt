@@ -1,4 +1,5 @@
 // One stage judged on all its sharings. Stages and components are counted from 0.
+use super::forecasts::workspace_for;
 use super::marks::clear;
 use super::marks::mark_one;
 use design::Layout;
@@ -7,7 +8,7 @@ ghost use Prim.Native.Nat.{_*_, _/_, _^_, _≤_, _<_};
 ghost use lib.Dec.{eqb};
 ghost use lib.ListN.{length, getD, drop};
 ghost use Rattle.finite.specs.Tests.{first};
-ghost use Rattle.finite.specs.Maps.{repeats};
+ghost use Rattle.finite.specs.Maps.{metBefore};
 ghost use Rattle.anf.specs.Terms.{named};
 ghost use Rattle.design.specs.Limits.{greatestWidth, greatestShares, greatestShareBits};
 ghost use Rattle.design.specs.Design.{stageOf};
@@ -16,9 +17,9 @@ ghost use Rattle.design.specs.inside.Described.{Describes};
 ghost use Rattle.design.specs.inside.StageLists.{listsOf};
 ghost use Rattle.threshold.specs.Sharing.{sum};
 ghost use Rattle.threshold.specs.inside.Variables.{variables};
-ghost use Rattle.threshold.specs.Stages.{output, correct, readsOwn};
-ghost use Rattle.checker.specs.inside.Parts.{Standing, agreeing};
-ghost use Rattle.checker.specs.inside.Marks.{Clear, Cleared, markBytes};
+ghost use Rattle.threshold.specs.Stages.{output, readsOwn};
+ghost use Rattle.checker.specs.inside.Parts.{Standing, stoppedAt, endedAfter, pass, correctnessPass, uniformityPass, stageFrom};
+ghost use Rattle.checker.specs.inside.Marks.{Clear, Cleared};
 
 // Whether the output sharing `y` sums to what the table makes of the sum of the sharing `x`.
 fn agrees(table: &[u8], m: usize, s: usize, x: u32, y: u32) -> bool
@@ -37,41 +38,59 @@ fn sharings(bits: usize) -> u32
     finite::power(bits) as u32
 }
 
-// How many bytes hold a mark for each sharing.
-pub fn mark_bytes(layout: Layout) -> usize
-    requires { ⌜ layout .head .m * layout .head .s ≤ greatestShareBits ⌝ }
-    ensures { λ r. ⌜ r ≡ markBytes layout ⌝ }
-{
-    finite::power(layout.head.m * layout.head.s) / 8
+// What a pass over sharings found: whether it stopped, and how many it tried.
+pub struct Pass {
+    pub stopped: bool,
+    pub tries: usize,
 }
 
-// Whether the lists that start where `starts` has it from `first` on agree with the table: all sharings are tried, up to the first that is wrong.
-fn all_agree(file: &[u8], starts: &[usize], first: usize, table: &[u8], m: usize, s: usize) -> bool
+// A pass that stops at the sharing `x`, which is tried too.
+fn stop_at(x: u32) -> Pass
+    ensures { λ r. ⌜ r ≡ stoppedAt x ⌝ }
+{
+    Pass {
+        stopped: true,
+        tries: x as usize + 1,
+    }
+}
+
+// A pass that tries all `n` sharings.
+fn end_after(n: u32) -> Pass
+    ensures { λ r. ⌜ r ≡ endedAfter n ⌝ }
+{
+    Pass {
+        stopped: false,
+        tries: n as usize,
+    }
+}
+
+// Tries whether the outputs of the lists, which start where `starts` has it from `first` on, sum to what the table makes of each sum.
+fn try_sums(file: &[u8], starts: &[usize], first: usize, table: &[u8], m: usize, s: usize) -> Pass
     requires { ⌜ Standing (now file) (now starts) first (m * s) × (m ≤ greatestWidth) × (length (now table) ≡ 2 ^ m) ⌝ }
-    ensures { λ r. ⌜ r ≡ agreeing m s (listsOf (now (file .entry)) (now (starts .entry)) first (m * s)) (now (table .entry)) (2 ^ (m * s)) ⌝ }
+    ensures { λ r. ⌜ r ≡ correctnessPass m s (stageFrom (now (table .entry)) (listsOf (now (file .entry)) (now (starts .entry)) first (m * s))) ⌝ }
 {
     let bits = m * s;
-    let tries = sharings(bits);
+    let n = sharings(bits);
     let mut x: u32 = 0;
-    while x < tries {
+    while x < n {
         let y = threshold::output_of(file, starts, first, bits, x);
         if !agrees(table, m, s, x, y) {
-            return false;
+            return stop_at(x);
         }
         x += 1;
     }
-    true
+    end_after(n)
 }
 
-// Whether stage `t` is correct.
-pub fn correct_stage(file: &[u8], layout: Layout, t: usize) -> bool
+// The pass that tries whether stage `t` is correct.
+pub fn try_correctness(file: &[u8], layout: Layout, t: usize) -> Pass
     requires { ⌜ Describes (now file) layout × (t < layout .head .k) ⌝ }
-    ensures { λ r. ⌜ r ≡ correct (layout .head .m) (layout .head .s) (stageOf (meaning (now (file .entry))) t) ⌝ }
+    ensures { λ r. ⌜ r ≡ correctnessPass (layout .head .m) (layout .head .s) (stageOf (meaning (now (file .entry))) t) ⌝ }
 {
     let table = design::table(file, layout, t);
     let starts = layout.starts;
     let first = design::number(layout.head, t, 1);
-    all_agree(file, &starts, first, table, layout.head.m, layout.head.s)
+    try_sums(file, &starts, first, table, layout.head.m, layout.head.s)
 }
 
 // The variables of share `j`.
@@ -119,10 +138,16 @@ pub fn offending(file: &[u8], layout: Layout, t: usize) -> usize
     found
 }
 
-// Marks the output of each sharing, up to the first that is marked already, and answers whether there is one.
-fn mark_all(file: &[u8], starts: &[usize], first: usize, count: usize, workspace: &mut [u8]) -> bool
+// Marks the output of each sharing, up to the first that is marked already.
+fn try_marks(
+    file: &[u8],
+    starts: &[usize],
+    first: usize,
+    count: usize,
+    workspace: &mut [u8],
+) -> Pass
     requires { ⌜ (3 ≤ count) × Standing (now file) (now starts) first count × (2 ^ count / 8 ≤ length (now workspace)) × Clear (2 ^ count) (now workspace) ⌝ }
-    ensures { λ r. ⌜ r ≡ repeats (2 ^ count) (output (listsOf (now (file .entry)) (now (starts .entry)) first count)) ⌝ }
+    ensures { λ r. ⌜ r ≡ pass (2 ^ count) (metBefore (output (listsOf (now (file .entry)) (now (starts .entry)) first count))) ⌝ }
     ensures { λ _. ⌜ drop (2 ^ count / 8) (now (workspace .exit)) ≡ drop (2 ^ count / 8) (now (workspace .entry)) ⌝ }
 {
     let n = sharings(count);
@@ -130,24 +155,24 @@ fn mark_all(file: &[u8], starts: &[usize], first: usize, count: usize, workspace
     while x < n {
         let y = threshold::output_of(file, starts, first, count, x);
         if mark_one(workspace, y as usize) {
-            return true;
+            return stop_at(x);
         }
         x += 1;
     }
-    false
+    end_after(n)
 }
 
-// Whether two sharings give one output of stage `t`. The marks are zero before and after.
-pub fn meets_twice(file: &[u8], layout: Layout, t: usize, workspace: &mut [u8]) -> bool
+// The pass that tries whether stage `t` is uniform. The marks are zero before and after.
+pub fn try_uniformity(file: &[u8], layout: Layout, t: usize, workspace: &mut [u8]) -> Pass
     requires { ⌜ Describes (now file) layout × (t < layout .head .k) × Cleared layout (now workspace) ⌝ }
-    ensures { λ r. ⌜ r ≡ repeats (2 ^ (layout .head .m * layout .head .s)) (output (stageOf (meaning (now (file .entry))) t .lists)) ⌝ }
+    ensures { λ r. ⌜ r ≡ uniformityPass (layout .head .m) (layout .head .s) (stageOf (meaning (now (file .entry))) t) ⌝ }
     ensures { λ _. ⌜ now (workspace .exit) ≡ now (workspace .entry) ⌝ }
 {
     let starts = layout.starts;
     let first = design::number(layout.head, t, 1);
     let bits = layout.head.m * layout.head.s;
-    let n = mark_bytes(layout);
-    let twice = mark_all(file, &starts, first, bits, workspace);
+    let n = workspace_for(layout.head);
+    let found = try_marks(file, &starts, first, bits, workspace);
     clear(workspace, n);
-    twice
+    found
 }

@@ -1,4 +1,4 @@
--- The ways out of `walk` and `read` over plain values, and what the loop over the records keeps. A premise is a test as the code has it, or what a call's
+-- The ways out of `walk`, `read_head` and `read` over plain values, and what the loop over the records keeps. A premise is a test as the code has it, or what a call's
 -- contract says of its result.
 -- Assumes nothing.
 use Prim.Native.Nat.{ℕ, _+_, _-_, _^_, _≤_, _<_}
@@ -6,23 +6,26 @@ use mathlib.Core.Path.{_≡_, refl, sym, ap, _∙_}
 use mathlib.Core.List.{List}
 use mathlib.Core.Bool.{Bool, true, false}
 use native.Mathlib.Omega.{arith}
+use borrow.Author.Tests.{eqb-true, eq-eqb, ne-eqb}
+use lib.Dec.{eqb}
 use lib.ListN.{length, set, length-set}
 use mir.Syntax.{w64}
 use mir.Val.{Fits}
 use Rattle.finite.specs.Tests.{pick, tabulate}
-use Rattle.finite.proofs.Testing.{tabulate-more}
+use Rattle.finite.proofs.Testing.{pick-true, pick-false, tabulate-more}
 use Rattle.records.specs.Bytes.{byte, u16At}
-use Rattle.design.specs.Layout.{noStarts, startOf, startsTo, refusedLayout, layoutOf}
+use Rattle.design.specs.Layout.{refusedHead, headRead, noStarts, startOf, startsTo, refusedLayout, layoutOf}
 use Rattle.design.specs.inside.Described.{Limits}
 use Rattle.design.specs.Limits.{greatestRecords, broken, checked}
-use Rattle.design.specs.Reading.{lastOf, faultAt, refused, means, reading, walk, place, headOf, meaning}
+use Rattle.design.specs.Reading.{lastOf, faultAt, headFault, refused, means, reading, walk, place, headOf, meaning}
 use Rattle.design.specs.inside.Framing.{frameFault}
 use Rattle.design.specs.declared.Head.{Head}
+use Rattle.design.specs.declared.HeadRead.{HeadRead}
 use Rattle.design.specs.declared.Layout.{Layout}
 use Rattle.design.specs.declared.Checked.{Checked}
 use Rattle.design.specs.declared.Checked.the-variants.{Good, Beyond}
 use Rattle.design.proofs.Records.{fault-framed}
-use Rattle.design.proofs.Walking.{walk-next, walk-stop, walk-over, walk-done, place-next, head-size, head-cut, head-beyond, head-good, head-next}
+use Rattle.design.proofs.Walking.{walk-next, walk-stop, walk-over, walk-done, place-next, head-size, head-frame, head-body, head-within, head-refused, head-next}
 
 -- a refusal
 answers-refused : (f : List ℕ) (l : Layout) (r p : ℕ) → reading f ≡ refused r p → l ≡ refusedLayout r p → l ≡ layoutOf f
@@ -118,39 +121,69 @@ module _ (f : List ℕ) (h : Head) (i at r : ℕ) (er : r ≡ faultAt f h i at) 
   pub next-fits : (b : ℕ) → b ≡ u16At f at → length f < 2 ^ 64 → Fits w64 (at + 4 + b)
   next-fits b e l = record { fits = omega (arith, fault-framed f h i at (sym er ∙ z) .rest) }
 
--- ---- `read`: r is the fault of the head's frame, v the constructor's answer for its numbers m, s, k
+-- ---- `read_head`: r is the fault of the head's frame, v the constructor's answer for its numbers m, s, k
 
-module _ (f : List ℕ) (r : ℕ) (er : r ≡ frameFault f 0 1 3) where
-  pub head-wrong : (y : Layout) → y ≡ refusedLayout r 0 → (r ≡ 0 → ⊥) → y ≡ layoutOf f
-  head-wrong y a e =
-      let d : frameFault f 0 1 3 ≡ 0 → ⊥ = λ z. e (er ∙ z) in
-      answers-refused f y _ _ (head-cut f d) (a ∙ ap (λ (x : ℕ). refusedLayout x 0) er)
+module _ (f : List ℕ) where
+  refused-head : (r : ℕ) → headFault f ≡ r → (r ≡ 0 → ⊥) → refusedHead r ≡ headRead f
+  unfolding headRead
+  refused-head r e n = sym (pick-false _ _ _ (ne-eqb (headFault f) 0 (λ z. n (sym e ∙ z))) ∙ ap refusedHead e)
 
-  module _ (z : r ≡ 0) where
-    pub head-there : (x : ℕ) → x < 7 → x < length f
-    head-there x l = omega (arith, head-size f (sym er ∙ z) .1)
+  module _ (r : ℕ) (er : r ≡ frameFault f 0 1 3) where
+    pub head-cut : (r ≡ 0 → ⊥) → (y : HeadRead) → y ≡ refusedHead r → y ≡ headRead f
+    head-cut n y a = a ∙ refused-head r (head-frame f (λ z. n (er ∙ z)) ∙ sym er) n
 
-    module _ (v : Checked) (m s k : ℕ) (ev : v ≡ checked m s k) (p : m ≡ byte f 4) (q : s ≡ byte f 5) (t : k ≡ byte f 6) where
-      read-good : (h : Head) (b : Bool) → broken (byte f 4) (byte f 5) (byte f 6) ≡ b → pick b Beyond (Good (headOf f)) ≡ Good h → (h ≡ headOf f) × (b ≡ false)
-      read-good h true l g = let w : _≡_ {A = ℕ} 0 1 = cc in absurd (omega arith)
-      read-good h false l g = (cc, refl)
+    module _ (z : r ≡ 0) where
+      pub head-there : (x : ℕ) → x < 7 → x < length f
+      head-there x l = omega (arith, head-size f (sym er ∙ z) .1)
 
-      module _ (h : Head) (g : v ≡ Good h) where
-        good : (h ≡ headOf f) × (broken (byte f 4) (byte f 5) (byte f 6) ≡ false)
-        good = read-good h _ refl (rw (p, q, t) at (sym ev ∙ g))
+      body : headFault f ≡ pick (broken (byte f 4) (byte f 5) (byte f 6)) 4 0
+      body = head-body f (sym er ∙ z)
 
-        pub head-read : h ≡ headOf f
-        head-read = good .0
+      module _ (v : Checked) (m s k : ℕ) (ev : v ≡ checked m s k) (p : m ≡ byte f 4) (q : s ≡ byte f 5) (t : k ≡ byte f 6) where
+        is-good : (h : Head) (b : Bool) → pick b Beyond (Good (headOf f)) ≡ Good h → (h ≡ headOf f) × (b ≡ false)
+        is-good h true g = let w : _≡_ {A = ℕ} 0 1 = cc in absurd (omega arith)
+        is-good h false g = (cc, refl)
 
-        pub head-limits : Limits h
-        head-limits = rw (good .0) (good .1)
+        pub head-good : (h : Head) → v ≡ Good h → record { reason = 0; head = h } ≡ headRead f
+        unfolding headRead
+        head-good h g =
+            let w = is-good h _ (rw (p, q, t) at (sym ev ∙ g)) in
+            let e : headFault f ≡ 0 = body ∙ pick-false (broken (byte f 4) (byte f 5) (byte f 6)) 4 0 (w .1) in
+            sym (pick-true _ _ _ (eq-eqb (headFault f) 0 e) ∙ ap (λ (x : Head). record { reason = 0; head = x }) (sym (w .0)))
 
-        pub head-faultless : faultAt f h 0 0 ≡ 0
-        head-faultless = rw (good .0) (head-good f (sym er ∙ z) (good .1))
+        is-beyond : (b : Bool) → pick b Beyond (Good (headOf f)) ≡ Beyond → b ≡ true
+        is-beyond true g = refl
+        is-beyond false g = let w : _≡_ {A = ℕ} 0 1 = cc in absurd (omega arith)
 
-      read-beyond : (b : Bool) → pick b Beyond (Good (headOf f)) ≡ Beyond → b ≡ true
-      read-beyond true g = refl
-      read-beyond false g = let w : _≡_ {A = ℕ} 0 1 = cc in absurd (omega arith)
+        pub head-beyond : v ≡ Beyond → (y : HeadRead) → y ≡ refusedHead 4 → y ≡ headRead f
+        head-beyond g y a = a ∙ refused-head 4 (body ∙ pick-true (broken (byte f 4) (byte f 5) (byte f 6)) 4 0 (is-beyond _ (rw (p, q, t) at (sym ev ∙ g)))) (λ e. omega arith)
 
-      pub beyond-limits : v ≡ Beyond → (y : Layout) → y ≡ refusedLayout 4 0 → y ≡ layoutOf f
-      beyond-limits g y a = answers-refused f y 4 0 (head-beyond f (sym er ∙ z) (read-beyond _ (rw (p, q, t) at (sym ev ∙ g)))) a
+-- ---- x is what `read_head` answers of the file f
+
+module _ (f : List ℕ) (x : HeadRead) (ex : x ≡ headRead f) where
+  pub head-reason : x .reason ≡ headFault f
+  unfolding headRead
+  head-reason = ap (λ (y : HeadRead). y .reason) ex ∙ go (eqb (headFault f) 0) refl
+    where
+      go : (b : Bool) → eqb (headFault f) 0 ≡ b → pick {A = HeadRead} b (record { reason = 0; head = headOf f }) (refusedHead (headFault f)) .reason ≡ headFault f
+      go true e = sym (eqb-true _ _ e)
+      go false e = refl
+
+  module _ (z : x .reason ≡ 0) where
+    none : headFault f ≡ 0
+    none = sym head-reason ∙ z
+
+    pub head-read : x .head ≡ headOf f
+    unfolding headRead
+    head-read = ap (λ (y : HeadRead). y .head) (ex ∙ pick-true _ _ _ (eq-eqb (headFault f) 0 none))
+
+    pub head-faultless : faultAt f (x .head) 0 0 ≡ 0
+    head-faultless = rw head-read none
+
+    pub head-limits : Limits (x .head)
+    head-limits = rw head-read (head-within f none)
+
+  -- `read`
+  pub read-refused : (x .reason ≡ 0 → ⊥) → (y : Layout) → y ≡ refusedLayout (x .reason) 0 → y ≡ layoutOf f
+  read-refused n y a =
+      answers-refused f y (headFault f) 0 (head-refused f (λ z. n (head-reason ∙ z))) (a ∙ ap (λ (r : ℕ). refusedLayout r 0) head-reason)

@@ -11,9 +11,9 @@ use native.Mathlib.Numerals.{add-one}
 use borrow.Author.Tests.{ltb-false, eqb-true, ne-eqb}
 use lib.ListN.{length, getD, take, drop}
 use lib.Arith.{digits-lt, digits-mod, digits-div}
-use lib.Dec.{ltb, eqb, lit<}
+use lib.Dec.{ltb, eqb}
 use Rattle.finite.specs.Tests.{pick}
-use Rattle.finite.proofs.Testing.{tabulate-at, pick-missed}
+use Rattle.finite.proofs.Testing.{tabulate-at}
 use Rattle.design.specs.Limits.{greatestWidth, greatestShares, greatestShareBits, greatestTerms}
 use Rattle.records.specs.Bytes.{u16At}
 use Rattle.design.specs.Design.{Design, noStage, stageOf, listOf}
@@ -22,8 +22,8 @@ use Rattle.design.specs.Reading.{lastOf, numberOf, kindDue, sizeDue, len
 use Rattle.design.specs.declared.Head.{Head}
 use Rattle.design.specs.declared.Layout.{Layout}
 use Rattle.design.proofs.Limits.{Bounds, bounds}
-use Rattle.design.proofs.Records.{Framed, frame-none, fault-framed}
-use Rattle.design.proofs.Walking.{head-body, place-next}
+use Rattle.design.proofs.Records.{Framed, fault-framed}
+use Rattle.design.proofs.Walking.{head-within, place-next}
 
 -- a walk that ends in a design met no fault
 module _ (f : List ℕ) (h : Head) (d : Design) where
@@ -114,10 +114,8 @@ module _ (f : List ℕ) (r : reading f ≡ means (meaning f)) where
   fine j u = none f (headOf f) (meaning f) (lastOf (headOf f) + 1) 0 0 r refl j (omega arith) (omega arith)
 
   pub limits-file : Limits (headOf f)
-  unfolding place kindDue sizeDue
-  limits-file =
-      let e : faultAt f (headOf f) 0 0 ≡ 0 = fine 0 (omega arith) in
-      pick-missed _ 4 (lit< tt) (sym (head-body f (frame-none f (headOf f) 0 0 e)) ∙ e)
+  unfolding place
+  limits-file = head-within f (fine 0 (omega arith))
 
   module _ (t : ℕ) (a : t < headOf f .k) where
     pub stage-is : stageOf (meaning f) t ≡ stageAt f (headOf f) t

@@ -4,6 +4,7 @@ pub mod Heading
 pub mod Records
 pub mod Faults
 pub mod Walking
+pub mod HeadAlone
 pub mod Answering
 pub mod Reasons
 pub mod Found

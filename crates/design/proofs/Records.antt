@@ -62,7 +62,7 @@ pub record Framed (f : List ℕ) (at k z : ℕ) : Type 0 where
   pub size : lengthDue k z (u16At f at) ≡ true
   pub rest : at + 4 + u16At f at ≤ length f
 
-zero-or : (x : ℕ) → (x ≡ 0) ⊎ (x ≡ 0 → ⊥)
+pub zero-or : (x : ℕ) → (x ≡ 0) ⊎ (x ≡ 0 → ⊥)
 zero-or zero = inl refl
 zero-or (suc x) = inr (λ e. omega arith)
 

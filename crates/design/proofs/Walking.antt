@@ -1,20 +1,22 @@
 -- Laws of the walk over the records: a step, a refusal, the end, and the head record.
 use Prim.Native.Nat.{ℕ, suc, _+_, _-_, _≤_, _<_}
-use mathlib.Core.Path.{_≡_, refl, sym, ap, _∙_}
+use mathlib.Core.Path.{_≡_, refl, sym, _∙_}
 use mathlib.Core.List.{List}
-use mathlib.Core.Bool.{true, false}
 use native.Mathlib.Omega.{arith}
 use native.Mathlib.Nat.{sub-zero}
 use native.Mathlib.Numerals.{add-one}
 use borrow.Author.Tests.{eqb-true, lt-ltb, le-ltb, ne-eqb}
 use lib.ListN.{length}
+use lib.Dec.{lit<}
 use Rattle.finite.specs.Tests.{pick}
+use Rattle.finite.proofs.Testing.{pick-missed}
 use Rattle.records.specs.Bytes.{byte, u16At}
 use Rattle.design.specs.Limits.{broken}
-use Rattle.design.specs.Reading.{lastOf, kindDue, sizeDue, lengthDue, faultAt, refused, means, reading, walk, place, headOf, meaning}
+use Rattle.design.specs.Reading.{lastOf, kindDue, sizeDue, lengthDue, faultAt, headFault, refused, means, reading, walk, place, headOf, meaning}
 use Rattle.design.specs.inside.Framing.{frameFault}
+use Rattle.design.specs.inside.Described.{Limits}
 use Rattle.design.specs.declared.Head.{Head}
-use Rattle.design.proofs.Records.{framed, fault-frame, fault-body, body-1, fault-framed}
+use Rattle.design.proofs.Records.{framed, fault-frame, fault-body, body-1, frame-none, fault-framed}
 
 module _ (f : List ℕ) (h : Head) (n i at : ℕ) where
   pub walk-next : i < n → faultAt f h i at ≡ 0 → walk f h (n - i) i at ≡ walk f h (n - (i + 1)) (i + 1) (at + 4 + u16At f at)
@@ -66,24 +68,22 @@ module _ (f : List ℕ) where
   unfolding sizeDue
   head-due h = refl
 
-  pub head-cut : (frameFault f 0 1 3 ≡ 0 → ⊥) → reading f ≡ refused (frameFault f 0 1 3) 0
-  head-cut e =
-      let q : faultAt f (headOf f) 0 0 ≡ frameFault f 0 1 3 = fault-frame f (headOf f) 0 0 1 3 (head-kind _) (head-due _) e in
-      start-walk f ∙ walk-stop f (headOf f) (lastOf (headOf f) + 1) 0 0 (omega arith) (λ z. e (sym q ∙ z)) ∙ ap (λ (r : ℕ). refused r 0) q
+  -- its frame's faults come first
+  pub head-frame : (frameFault f 0 1 3 ≡ 0 → ⊥) → headFault f ≡ frameFault f 0 1 3
+  head-frame e = fault-frame f (headOf f) 0 0 1 3 (head-kind _) (head-due _) e
 
-  pub head-body : frameFault f 0 1 3 ≡ 0 → faultAt f (headOf f) 0 0 ≡ pick (broken (byte f 4) (byte f 5) (byte f 6)) 4 0
+  pub head-body : frameFault f 0 1 3 ≡ 0 → headFault f ≡ pick (broken (byte f 4) (byte f 5) (byte f 6)) 4 0
   head-body e = fault-body f (headOf f) 0 0 1 3 (head-kind _) (head-due _) e ∙ body-1 f (headOf f) 1 4 (u16At f 0) refl
 
-  pub head-beyond : frameFault f 0 1 3 ≡ 0 → broken (byte f 4) (byte f 5) (byte f 6) ≡ true → reading f ≡ refused 4 0
-  head-beyond e b =
-      let q : faultAt f (headOf f) 0 0 ≡ 4 = head-body e ∙ simp b in
-      start-walk f ∙ walk-stop f (headOf f) (lastOf (headOf f) + 1) 0 0 (omega arith) (λ z. omega (arith, q, z)) ∙ ap (λ (r : ℕ). refused r 0) q
+  pub head-within : headFault f ≡ 0 → Limits (headOf f)
+  unfolding kindDue sizeDue
+  head-within e = pick-missed _ 4 (lit< tt) (sym (head-body (frame-none f (headOf f) 0 0 e)) ∙ e)
 
-  pub head-good : frameFault f 0 1 3 ≡ 0 → broken (byte f 4) (byte f 5) (byte f 6) ≡ false → faultAt f (headOf f) 0 0 ≡ 0
-  head-good e b = head-body e ∙ simp b
+  pub head-refused : (headFault f ≡ 0 → ⊥) → reading f ≡ refused (headFault f) 0
+  head-refused e = start-walk f ∙ walk-stop f (headOf f) (lastOf (headOf f) + 1) 0 0 (omega arith) e
 
   -- where the walk stands after the head
-  pub head-next : faultAt f (headOf f) 0 0 ≡ 0 → (7 ≤ length f) × (place f 1 ≡ 7) × (reading f ≡ walk f (headOf f) (lastOf (headOf f) + 1 - 1) 1 7)
+  pub head-next : headFault f ≡ 0 → (7 ≤ length f) × (place f 1 ≡ 7) × (reading f ≡ walk f (headOf f) (lastOf (headOf f) + 1 - 1) 1 7)
   unfolding place kindDue sizeDue lengthDue
   head-next e =
       let w = fault-framed f (headOf f) 0 0 e in

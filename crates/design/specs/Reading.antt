@@ -96,6 +96,10 @@ unfoldable pub faultAt : List ℕ → Head → ℕ → ℕ → ℕ
 faultAt f h i at =
     firstFault (frameFaults f at (kindDue h i) (sizeDue h (kindDue h i)) ++ bodyFaults f h (kindDue h i) (at + 4) (u16At f at)) 0
 
+-- of the head record
+abbrev pub headFault : List ℕ → ℕ
+headFault f = faultAt f (headOf f) 0 0
+
 -- ---- The design that a file without fault means.
 
 -- where record i starts: each is four bytes and its body behind the one before

@@ -8,6 +8,7 @@ pub use parts::list;
 pub use parts::number;
 pub use parts::table;
 pub use reader::read;
+pub use reader::read_head;
 ghost use mathlib.Core.Path.{_≡_};
 ghost use Rattle.design.specs.Limits.{checked};
 
@@ -70,6 +71,12 @@ impl Head {
         }
         Checked::Good(Head { m, s, k })
     }
+}
+
+// What reading the head record alone finds: the reason of a refusal, or 0 and the head.
+pub struct HeadRead {
+    pub reason: usize,
+    pub head: Head,
 }
 
 // What reading finds: the reason and the place of a refusal, or 0 and where each record's body starts.

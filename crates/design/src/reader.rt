@@ -3,6 +3,7 @@ use super::Checked;
 use super::GREATEST_RECORDS;
 use super::GREATEST_TERMS;
 use super::Head;
+use super::HeadRead;
 use super::Layout;
 use finite::power;
 use finite::wide;
@@ -19,7 +20,7 @@ ghost use Rattle.anf.specs.Terms.{before};
 ghost use Rattle.design.specs.Limits.{greatestRecords};
 ghost use Rattle.design.specs.Reading.{headOf, lastOf, kindDue, sizeDue, lengthDue, entryFits, termFits, faultAt};
 ghost use Rattle.design.specs.inside.Framing.{frameFault};
-ghost use Rattle.design.specs.Layout.{refusedLayout, layoutOf};
+ghost use Rattle.design.specs.Layout.{refusedHead, headRead, refusedLayout, layoutOf};
 ghost use Rattle.design.specs.inside.Described.{Limits};
 
 // Whether a record of this kind may have the length `n`.
@@ -218,16 +219,35 @@ fn walk(file: &[u8], h: Head) -> Layout
     }
 }
 
-// Reads a design file.
-pub fn read(file: &[u8]) -> Layout
-    ensures { λ r. ⌜ r ≡ layoutOf (now (file .entry)) ⌝ }
+// The answer where the head record is refused.
+fn no_head(reason: usize) -> HeadRead
+    ensures { λ r. ⌜ r ≡ refusedHead reason ⌝ }
+{
+    let head = Head { m: 0, s: 0, k: 0 };
+    HeadRead { reason, head }
+}
+
+// Reads the head record alone.
+pub fn read_head(file: &[u8]) -> HeadRead
+    ensures { λ r. ⌜ r ≡ headRead (now (file .entry)) ⌝ }
 {
     let r = framed(file, 0, 1, 3);
     if r != 0 {
-        return refusal(r, 0);
+        return no_head(r);
     }
     match Head::new(wide(file[4]), wide(file[5]), wide(file[6])) {
-        Checked::Good(h) => walk(file, h),
-        Checked::Beyond => refusal(4, 0),
+        Checked::Good(h) => HeadRead { reason: 0, head: h },
+        Checked::Beyond => no_head(4),
     }
+}
+
+// Reads a design file: the head record, then the others.
+pub fn read(file: &[u8]) -> Layout
+    ensures { λ r. ⌜ r ≡ layoutOf (now (file .entry)) ⌝ }
+{
+    let first = read_head(file);
+    if first.reason != 0 {
+        return refusal(first.reason, 0);
+    }
+    walk(file, first.head)
 }

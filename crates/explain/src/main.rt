@@ -172,5 +172,6 @@ fn main() {
     }
     // a bit for each sharing of the greatest share bits
     let mut workspace = [0u8; 131072];
-    print_verdict(checker::judge(file, &mut workspace));
+    let judged = checker::judge(file, &mut workspace);
+    print_verdict(judged.verdict);
 }

@@ -10,7 +10,7 @@ use native.Mathlib.Numerals.{add-one}
 use native.Mathlib.Omega.{arith}
 use lib.ListN.{length, getD, drop, set}
 use lib.Seq.{set-at, drop-cons, ext-getD}
-use Rattle.finite.specs.Tests.{pick, implies, all, any, first, tabulate}
+use Rattle.finite.specs.Tests.{pick, implies, all, any, first, tried, tabulate}
 
 -- ---- Bool
 
@@ -185,6 +185,16 @@ any-step n p = rw add-one refl
 pub any-none-more : (n : ℕ) (p : ℕ → Bool) → any n p ≡ false → p n ≡ false → any (n + 1) p ≡ false
 any-none-more n p a h = any-step n p ∙ or-none a h
 
+not-and : (a b : Bool) → not (a && b) ≡ (not a || not b)
+not-and true b = refl
+not-and false b = refl
+
+-- a test fails somewhere exactly where it does not pass everywhere
+pub any-not : (n : ℕ) (p : ℕ → Bool) → any n (λ i. not (p i)) ≡ not (all n p)
+unfolding any all
+any-not zero p = refl
+any-not (suc n) p = ap (λ (b : Bool). b || not (p n)) (any-not n p) ∙ sym (not-and (all n p) (p n))
+
 -- ---- the lowest that passes
 
 pub first-found : (n : ℕ) (p : ℕ → Bool) (j : ℕ) → j < n → any j p ≡ false → p j ≡ true → first n p ≡ j
@@ -218,6 +228,24 @@ first-some n p l = ⊎-elim (λ e. e) (λ e. absurd (omega (arith, first-none n 
 
 pub first-past : (n : ℕ) (p : ℕ → Bool) → n ≤ first n p → any n p ≡ false
 first-past n p l = not-true-false _ (λ a. omega (arith, first-is n p a))
+
+-- ---- how many are tried
+
+module _ (n : ℕ) (p : ℕ → Bool) where
+  pub tried-to : (j : ℕ) → j < n → any j p ≡ false → p j ≡ true → tried n p ≡ j + 1
+  unfolding tried
+  tried-to j l a h = pick-true _ _ _ (any-at n p j l h) ∙ ap (λ (x : ℕ). x + 1) (first-found n p j l a h)
+
+  pub tried-all : any n p ≡ false → tried n p ≡ n
+  unfolding tried
+  tried-all e = pick-false _ _ _ e
+
+  pub tried-most : tried n p ≤ n
+  tried-most =
+      ⊎-elim
+      (λ e. let w = first-is n p e in omega (arith, tried-to (first n p) (w .0) (w .2) (w .1), w .0))
+      (λ e. omega (arith, tried-all e))
+      (true-or-false (any n p))
 
 -- ---- tabulated lists
 

@@ -27,6 +27,10 @@ unfoldable pub first : ℕ → (ℕ → Bool) → ℕ
 first zero p = 0
 first (suc n) p = pick (any n p) (first n p) (pick (p n) n (suc n))
 
+-- how many of the numbers below n are tried, from 0 on: up to the first at which p passes, which is tried too, or all
+unfoldable pub tried : ℕ → (ℕ → Bool) → ℕ
+tried n p = pick (any n p) (first n p + 1) n
+
 -- the total of g 0, g 1, .. g (n - 1)
 unfoldable pub total : ℕ → (ℕ → ℕ) → ℕ
 total zero g = 0

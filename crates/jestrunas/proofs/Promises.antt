@@ -36,11 +36,13 @@ use Rattle.threshold.specs.Stages.{output, component, Correct, NonComplete, Uni
 use Rattle.threshold.specs.Running.{running}
 use Rattle.threshold.proofs.Stages.{stage-uniform↔counted}
 use Rattle.checker.specs.Verdict.{answer, workspaceFor, verdict}
+use Rattle.checker.specs.Trials.{trialsByOutcome, trials, judging, forecast}
 use Rattle.checker.specs.Accepted.{Accepted, Explained}
 use Rattle.checker.specs.Assurance.{Assured, Blind}
 use Rattle.checker.specs.Bench as bench-checker
 use Rattle.checker.proofs.Exactly as exactly
 use Rattle.checker.proofs.Assurance as assured
+use Rattle.checker.proofs.Trials as counting
 use Rattle.checker.proofs.Bench as checker-bench
 use Rattle.direct.specs.Direct.{isProduct, chosen, componentFor, directStage, directSharing, Shareable, Box}
 use Rattle.producer.specs.Producing.{produced, producedReason, producing, outputAfter, Succeeds, producedMost}
@@ -127,6 +129,38 @@ assurance = assured.assurance
 pub blind : (f : List ℕ) (n : ℕ) → verdict f n .reason ≡ 0 → (d : Design) × Assured f d × Blind d
 blind = assured.blind
 
+-- ---- Machine time before booking
+
+-- The head record decides the forecast: the first seven bytes of the file, whatever follows.
+pub forecast-head : (f g : List ℕ) → take 7 f ≡ take 7 g → forecast f ≡ forecast g
+forecast-head = counting.forecast-head
+
+-- It is refused exactly where reading refuses the head record, with the same reason, which is from 1 to 4.
+pub forecast-refused : (f : List ℕ) (r : ℕ) → r ≢ 0 → (forecast f ≡ record { reason = r; workspace = 0; trials = 0 }) ↔ (reading f ≡ refused r 0)
+forecast-refused = counting.forecast-refused
+
+pub forecast-range : (f : List ℕ) → forecast f .reason ≤ 4
+forecast-range = counting.forecast-range
+
+-- For a file that reads it is what the design asks for, and two passes over all sharings in each stage.
+pub forecast-reads : (f : List ℕ) (d : Design) → reading f ≡ means d
+    → forecast f ≡ record { reason = 0; workspace = workspaceFor (d .m) (d .s); trials = 2 * d .k * 2 ^ (d .m * d .s) }
+forecast-reads = counting.forecast-reads
+
+-- An accepted design takes just so many trials; 1 to 11 take none; no verdict takes more than is forecast.
+pub trials-accepted : (f : List ℕ) (n : ℕ) → verdict f n .reason ≡ 0 → (d : Design) × (reading f ≡ means d) × (trials f n ≡ 2 * d .k * 2 ^ (d .m * d .s))
+trials-accepted = counting.trials-accepted
+
+pub trials-none : (f : List ℕ) (n : ℕ) → 1 ≤ verdict f n .reason → verdict f n .reason ≤ 11 → trials f n ≡ 0
+trials-none = counting.trials-none
+
+pub trials-most : (f : List ℕ) (n : ℕ) → trials f n ≤ forecast f .trials
+trials-most = counting.trials-most
+
+-- And the trials of every outcome, by its reason and its stage, where the file reads; of others `trials-none` speaks.
+pub trials-outcome : (f : List ℕ) (n : ℕ) (d : Design) → reading f ≡ means d → trials f n ≡ trialsByOutcome d (verdict f n)
+trials-outcome = counting.trials-outcome
+
 -- ---- The direct sharing
 
 -- A term of degree d gives s^d products.
@@ -203,7 +237,8 @@ pub record Bench : Type 0 where
   pub heads : map (λ r. headAnswer (checked (r .m) (r .s) 1)) bench-design.headRows ≡ map (λ r. r .answer) bench-design.headRows
   pub encoded : encode bench-design.designD ≡ bench-design.fileD
   pub readings : map (λ r. reading (r .file)) bench-design.rows ≡ map (λ r. r .answer) bench-design.rows
-  pub verdicts : map (λ r. verdict (r .file) (r .workspace)) bench-checker.rows ≡ map (λ r. r .answer) bench-checker.rows
+  pub verdicts : map (λ r. judging (r .file) (r .workspace)) bench-checker.rows ≡ map (λ r. r .answer) bench-checker.rows
+  pub forecasts : map (λ r. forecast (r .file)) bench-checker.forecasts ≡ map (λ r. r .answer) bench-checker.forecasts
   pub runs : map (λ r. running (r .file) (r .shares)) bench-checker.runs ≡ map (λ r. r .answer) bench-checker.runs
   pub productions : map (λ r. producing (r .m) (r .s) (r .table) (length (r .output))) bench-producer.rows ≡ map (λ r. r .answer) bench-producer.rows
   pub lists : directStage 1 3 (1 ∷ 0 ∷ []) .lists ≡ (0 ∷ 2 ∷ []) ∷ (4 ∷ []) ∷ (1 ∷ []) ∷ []
@@ -216,6 +251,7 @@ bench = record {
   encoded = design-bench.D-encoded;
   readings = design-bench.bench;
   verdicts = checker-bench.bench-verdicts;
+  forecasts = checker-bench.bench-forecasts;
   runs = checker-bench.bench-runs;
   productions = producer-bench.bench-answers;
   lists = direct-bench.bench-lists;

@@ -1,4 +1,6 @@
 // The published operations, exported to C. Each is a call of the layer below, with the same contract and no `requires`.
+use checker::Forecast;
+use checker::Judged;
 use checker::Verdict;
 use records::Produced;
 use threshold::FiveShares;
@@ -7,7 +9,8 @@ ghost use mathlib.Core.Path.{_≡_};
 ghost use lib.ListN.{length};
 ghost use Rattle.anf.specs.Transform.{transformReason, transformAfter};
 ghost use Rattle.threshold.specs.Running.{running};
-ghost use Rattle.checker.specs.Verdict.{verdict, workspaceAfter};
+ghost use Rattle.checker.specs.Verdict.{workspaceAfter};
+ghost use Rattle.checker.specs.Trials.{judging, forecast};
 ghost use Rattle.producer.specs.Producing.{producing, outputAfter};
 ghost use Rattle.jestrunas.specs.Published.{readAnswer};
 
@@ -30,10 +33,18 @@ pub extern "C" fn jestrunas_read(file: &[u8]) -> Verdict
     }
 }
 
-// The verdict on a design file.
+// What a verdict on a design file can take, from its head record alone.
 #[no_mangle]
-pub extern "C" fn jestrunas_judge(file: &[u8], workspace: &mut [u8]) -> Verdict
-    ensures { λ r. ⌜ r ≡ verdict (now (file .entry)) (length (now (workspace .entry))) ⌝ }
+pub extern "C" fn jestrunas_forecast(file: &[u8]) -> Forecast
+    ensures { λ r. ⌜ r ≡ forecast (now (file .entry)) ⌝ }
+{
+    checker::foresee(file)
+}
+
+// The verdict on a design file, and its trials.
+#[no_mangle]
+pub extern "C" fn jestrunas_judge(file: &[u8], workspace: &mut [u8]) -> Judged
+    ensures { λ r. ⌜ r ≡ judging (now (file .entry)) (length (now (workspace .entry))) ⌝ }
     ensures { λ _. ⌜ now (workspace .exit) ≡ workspaceAfter (now (file .entry)) (now (workspace .entry)) ⌝ }
 {
     checker::judge(file, workspace)

@@ -16,6 +16,7 @@ fn main() {
         return;
     }
     let mut workspace = [0u8; 32768];
-    let v = checker::judge(&input[..n], &mut workspace);
+    let judged = checker::judge(&input[..n], &mut workspace);
+    let v = judged.verdict;
     print_line(v.reason, v.place, v.component);
 }

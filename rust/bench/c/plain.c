@@ -131,22 +131,27 @@ static size_t offending(const list *l, size_t m, size_t s) {
     return 0;
 }
 
-static jestrunas_verdict_t judge_stage(const uint8_t *file, const layout *d, size_t g, uint8_t *ws) {
+/* Trials are counted where a pass ends, so that counting adds nothing to the loops. */
+static jestrunas_judged_t judge_stage(const uint8_t *file, const layout *d, size_t g, uint8_t *ws) {
     list l[20];
-    size_t bits = d->m * d->s;
+    size_t bits = d->m * d->s, sharings = (size_t)1 << bits;
     const uint8_t *table = file + d->start[table_record(d, g)];
-    jestrunas_verdict_t v = {0, g + 1, 0};
+    jestrunas_judged_t v = {0, g + 1, 0, (2 * g + 2) * sharings};
     lists_of(file, d, g, l);
     for (uint32_t x = 0; x >> bits == 0; x++)
-        if (sum_of(stage_at(l, bits, x), d->m, d->s) != table[sum_of(x, d->m, d->s)]) { v.reason = 12; return v; }
+        if (sum_of(stage_at(l, bits, x), d->m, d->s) != table[sum_of(x, d->m, d->s)]) {
+            v.reason = 12;
+            v.trials = 2 * g * sharings + x + 1;
+            return v;
+        }
     v.component = offending(l, d->m, d->s);
-    if (v.component) { v.reason = 13; return v; }
+    if (v.component) { v.reason = 13; v.trials = (2 * g + 1) * sharings; return v; }
     for (uint32_t x = 0; x >> bits == 0; x++) {
         uint32_t y = stage_at(l, bits, x);
-        if (ws[y >> 3] >> (y & 7) & 1) { v.reason = 14; break; }
+        if (ws[y >> 3] >> (y & 7) & 1) { v.reason = 14; v.trials = (2 * g + 1) * sharings + x + 1; break; }
         ws[y >> 3] |= (uint8_t)(1 << (y & 7));
     }
-    memset(ws, 0, ((size_t)1 << bits) / 8);
+    memset(ws, 0, sharings / 8);
     return v;
 }
 
@@ -155,10 +160,22 @@ jestrunas_verdict_t NAME(read)(const uint8_t *file, size_t file_len) {
     return read_layout(file, file_len, &d);
 }
 
-jestrunas_verdict_t NAME(judge)(const uint8_t *file, size_t file_len, uint8_t *ws, size_t ws_len) {
+/* A file of the head record alone that reads so far is cut short where the next record is due. */
+jestrunas_forecast_t NAME(forecast)(const uint8_t *file, size_t file_len) {
+    layout d = {0};
+    jestrunas_forecast_t f = {read_layout(file, file_len < 7 ? file_len : 7, &d).reason, 0, 0};
+    if (!d.k) return f;
+    f.reason = 0;
+    f.workspace = ((size_t)1 << (d.m * d.s)) / 8;
+    f.trials = (2 * d.k) << (d.m * d.s);
+    return f;
+}
+
+jestrunas_judged_t NAME(judge)(const uint8_t *file, size_t file_len, uint8_t *ws, size_t ws_len) {
     layout d = {0};
     uint8_t c[64];
-    jestrunas_verdict_t v = read_layout(file, file_len, &d);
+    jestrunas_verdict_t read = read_layout(file, file_len, &d);
+    jestrunas_judged_t v = {read.reason, read.place, read.component, 0};
     if (v.reason) return v;
     size_t size = (size_t)1 << d.m, bytes = ((size_t)1 << (d.m * d.s)) / 8;
     if (repeats(file + d.start[1], size)) { v.reason = 8; return v; }

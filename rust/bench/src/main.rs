@@ -4,14 +4,15 @@
 //!
 //!     cargo run --release -p bench [-- ROUNDS]
 
-use jestrunas::native::{Produced, Run, Shares, Verdict};
+use jestrunas::native::{Forecast, Judged, Produced, Run, Shares, Verdict};
 use reference::samples::{chain, cubic, d, full, six_bits, twenty_share_bits};
 use reference::{encode, Design};
 use std::hint::black_box;
 use std::time::Duration;
 
 type Read = unsafe extern "C" fn(*const u8, usize) -> Verdict;
-type Judge = unsafe extern "C" fn(*const u8, usize, *mut u8, usize) -> Verdict;
+type AskForecast = unsafe extern "C" fn(*const u8, usize) -> Forecast;
+type Judge = unsafe extern "C" fn(*const u8, usize, *mut u8, usize) -> Judged;
 type RunChain = unsafe extern "C" fn(*const u8, usize, Shares) -> Run;
 type Produce = unsafe extern "C" fn(usize, usize, *const u8, usize, *mut u8, usize) -> Produced;
 type Passage = unsafe extern "C" fn(usize, *const u8, usize, *mut u8, usize) -> usize;
@@ -20,6 +21,7 @@ type Passage = unsafe extern "C" fn(usize, *const u8, usize, *mut u8, usize) -> 
 struct Operations {
     name: &'static str,
     read: Read,
+    forecast: AskForecast,
     judge: Judge,
     run: RunChain,
     produce: Produce,
@@ -27,14 +29,17 @@ struct Operations {
 }
 
 macro_rules! operations {
-    ($module:ident, $name:literal, $read:literal, $judge:literal, $run:literal, $produce:literal, $to_coefficients:literal) => {
+    ($module:ident, $name:literal, $read:literal, $forecast:literal, $judge:literal, $run:literal, $produce:literal,
+     $to_coefficients:literal) => {
         mod $module {
             use super::*;
             extern "C" {
                 #[link_name = $read]
                 fn read(file: *const u8, file_len: usize) -> Verdict;
+                #[link_name = $forecast]
+                fn forecast(file: *const u8, file_len: usize) -> Forecast;
                 #[link_name = $judge]
-                fn judge(file: *const u8, file_len: usize, workspace: *mut u8, workspace_len: usize) -> Verdict;
+                fn judge(file: *const u8, file_len: usize, workspace: *mut u8, workspace_len: usize) -> Judged;
                 #[link_name = $run]
                 fn run(file: *const u8, file_len: usize, shares: Shares) -> Run;
                 #[link_name = $produce]
@@ -49,7 +54,7 @@ macro_rules! operations {
                 #[link_name = $to_coefficients]
                 fn to_coefficients(m: usize, input: *const u8, input_len: usize, output: *mut u8, output_len: usize) -> usize;
             }
-            pub const OPERATIONS: Operations = Operations { name: $name, read, judge, run, produce, to_coefficients };
+            pub const OPERATIONS: Operations = Operations { name: $name, read, forecast, judge, run, produce, to_coefficients };
         }
     };
 }
@@ -58,16 +63,35 @@ operations!(
     library,
     "library",
     "jestrunas_read",
+    "jestrunas_forecast",
     "jestrunas_judge",
     "jestrunas_run",
     "jestrunas_produce",
     "jestrunas_to_coefficients"
 );
-operations!(gcc, "gcc native", "gcc_read", "gcc_judge", "gcc_run", "gcc_produce", "gcc_to_coefficients");
-operations!(avx2, "gcc x86-64-v3", "avx2_read", "avx2_judge", "avx2_run", "avx2_produce", "avx2_to_coefficients");
-operations!(any, "gcc x86-64", "any_read", "any_judge", "any_run", "any_produce", "any_to_coefficients");
+operations!(gcc, "gcc native", "gcc_read", "gcc_forecast", "gcc_judge", "gcc_run", "gcc_produce", "gcc_to_coefficients");
+operations!(
+    avx2,
+    "gcc x86-64-v3",
+    "avx2_read",
+    "avx2_forecast",
+    "avx2_judge",
+    "avx2_run",
+    "avx2_produce",
+    "avx2_to_coefficients"
+);
+operations!(any, "gcc x86-64", "any_read", "any_forecast", "any_judge", "any_run", "any_produce", "any_to_coefficients");
 #[cfg(clang)]
-operations!(clang, "clang native", "clang_read", "clang_judge", "clang_run", "clang_produce", "clang_to_coefficients");
+operations!(
+    clang,
+    "clang native",
+    "clang_read",
+    "clang_forecast",
+    "clang_judge",
+    "clang_run",
+    "clang_produce",
+    "clang_to_coefficients"
+);
 
 /// The processor time of this thread so far, which other programs on the machine do not add to.
 fn now() -> Duration {
@@ -150,7 +174,13 @@ fn main() {
                 verdicts.swap_remove(0);
             }
         });
-        assert!(verdicts.iter().all(|v| (v.reason, v.place) == (0, design.stages.len())), "{name}: {verdicts:?}");
+        let stages = design.stages.len();
+        let due = Judged { reason: 0, place: stages, component: 0, trials: (2 * stages) << (design.m * design.s) };
+        assert!(verdicts.iter().all(|&verdict| verdict == due), "{name}: {verdicts:?}");
+        row(&what, "forecast", &all, rounds, |o| {
+            let forecast = unsafe { (o.forecast)(file.as_ptr(), file.len()) };
+            assert_eq!(black_box(forecast).trials, due.trials);
+        });
         row(&what, "read", &all, rounds, |o| {
             black_box(unsafe { (o.read)(file.as_ptr(), file.len()) });
         });

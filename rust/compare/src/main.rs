@@ -4,7 +4,7 @@
 //!     compare [FILES [SEED]]
 //!
 //! FILES is the number of generated files, 200,000 unless said. The last lines count what was compared; the exit
-//! status is 1 at a difference (printed with the file and both answers), or where a reason never occurred.
+//! status is 1 at a difference (printed with the file and both answers), or where a reason, or a place where trials stop, never occurred.
 
 use compare::hex;
 use compare::lent::{self, Lent};
@@ -44,6 +44,39 @@ impl Counts {
     }
 }
 
+/// Where the passes over all sharings that found a fault stopped.
+#[derive(Default)]
+struct Stops {
+    first_half: usize,
+    second_half: usize,
+    last: usize,
+}
+
+impl Stops {
+    fn add(&mut self, trials: usize, sharings: usize) {
+        if trials == sharings {
+            self.last += 1;
+        } else if 2 * trials > sharings {
+            self.second_half += 1;
+        } else {
+            self.first_half += 1;
+        }
+    }
+
+    /// `last_due` says whether a pass can stop at the last sharing.
+    fn say(&self, what: &str, last_due: bool) -> bool {
+        let Stops { first_half, second_half, last } = *self;
+        println!(
+            "{what}: stopped {first_half} times in the first half of the sharings, {second_half} in the second, {last} at the last"
+        );
+        let complete = first_half > 0 && second_half > 0 && last_due == (last > 0);
+        if !complete {
+            println!("{what}: stopped too seldom, or where it cannot");
+        }
+        complete
+    }
+}
+
 struct Comparison {
     random: Random,
     file: Lent,
@@ -55,7 +88,10 @@ struct Comparison {
     assured: usize,
     sizes: [[usize; 4]; 15],
     reads: Counts,
+    forecasts: Counts,
     verdicts: Counts,
+    correctness: Stops,
+    uniformity: Stops,
     runs: Counts,
     produced: Counts,
     passages: Counts,
@@ -74,7 +110,10 @@ impl Comparison {
             assured: 0,
             sizes: [[0; 4]; 15],
             reads: Counts::default(),
+            forecasts: Counts::default(),
             verdicts: Counts::default(),
+            correctness: Stops::default(),
+            uniformity: Stops::default(),
             runs: Counts::default(),
             produced: Counts::default(),
             passages: Counts::default(),
@@ -105,14 +144,39 @@ impl Comparison {
         self.lent.put(content, at_end);
     }
 
+    /// The forecast of a file or of a part of one, as it is lent.
+    fn forecast(&mut self, file: &[u8]) -> [usize; 3] {
+        let f = native::forecast(self.file.slice());
+        let answer = [f.reason, f.workspace, f.trials];
+        let due = reference::forecast(file);
+        if answer != due {
+            self.differs("forecast", file, answer, due);
+        }
+        self.forecasts.add(due[0]);
+        due
+    }
+
+    /// The forecast of bytes that are lent for it alone.
+    fn compare_forecast(&mut self, file: &[u8]) {
+        self.lend_file(file);
+        lent::remember(file);
+        self.forecast(file);
+        if !self.file.is(file) {
+            let now = self.file.slice().to_vec();
+            self.differs("the file is only read by the forecast", file, hex(&now), "");
+        }
+    }
+
     /// A verdict in a workspace of this length, which holds anything before.
     fn judge(&mut self, file: &[u8], due: Answer, design: Option<&Design>, length: usize) {
         let mut workspace = self.random.bytes(length);
         self.lend(&workspace);
         let v = native::judge(self.file.slice(), self.lent.slice());
-        let answer = [v.reason, v.place, v.component];
+        let answer = [v.reason, v.place, v.component, v.trials];
         if let (10..=14 | 0, Some(design)) = (due[0], design) {
-            workspace[..(1 << (design.m * design.s)) / 8].fill(0);
+            let sharings = 1 << (design.m * design.s);
+            workspace[..sharings / 8].fill(0);
+            self.stopped(due, sharings);
         }
         if answer != due {
             self.differs(&format!("judge, workspace of {length}"), file, answer, due);
@@ -122,6 +186,15 @@ impl Comparison {
             self.differs(&format!("judge, bytes of a workspace of {length}"), file, hex(&now), hex(&workspace));
         }
         self.verdicts.add(due[0]);
+    }
+
+    /// Counts where the pass that found the fault of a verdict stopped.
+    fn stopped(&mut self, [reason, stage, _, trials]: Answer, sharings: usize) {
+        match reason {
+            12 => self.correctness.add(trials - 2 * (stage - 1) * sharings, sharings),
+            14 => self.uniformity.add(trials - (2 * stage - 1) * sharings, sharings),
+            _ => {}
+        }
     }
 
     fn run(&mut self, file: &[u8], shares: Shares) {
@@ -147,11 +220,13 @@ impl Comparison {
             self.differs("read", file, r, due);
         }
         self.reads.add(due[0]);
+        let forecast = self.forecast(file);
 
         match &meaning {
             Err(_) => {
                 let length = if self.random.once_in(16) { 5_000 } else { self.random.below(20) };
-                self.judge(file, due, None, length);
+                let [reason, place, component] = due;
+                self.judge(file, [reason, place, component, 0], None, length);
                 if self.random.once_in(4) {
                     let shares = [0; 5].map(|_: u8| self.random.below(4) as u8);
                     self.run(file, shares);
@@ -167,6 +242,11 @@ impl Comparison {
                 }
                 let enough = (1 << (m * s)) / 8;
                 let full = reference::verdict(design, enough);
+                let [_, workspace, most] = forecast;
+                let holds = if full[0] == 0 { full[3] == most } else { full[3] <= most };
+                if workspace != enough || !holds {
+                    self.differs("the forecast holds", file, forecast, full);
+                }
                 let more = enough + self.random.below(3) * self.random.below(40);
                 self.judge(file, full, Some(design), more);
                 if self.random.once_in(4) {
@@ -194,6 +274,9 @@ impl Comparison {
         if !self.file.is(file) {
             let now = self.file.slice().to_vec();
             self.differs("the file is only read", file, hex(&now), "");
+        }
+        for length in 0..=file.len().min(8) {
+            self.compare_forecast(&file[..length]);
         }
     }
 
@@ -381,6 +464,20 @@ impl Comparison {
         }
     }
 
+    /// Forecasts of heads with every m and s that two bytes can say, alone or with bytes after them.
+    fn heads(&mut self) {
+        for m in 0..=255 {
+            for s in 0..=255 {
+                for k in [0, 1, 4, 5, self.random.byte()] {
+                    let mut file = vec![3, 0, 1, 0, m, s, k];
+                    let n = self.random.below(2) * self.random.below(9);
+                    file.extend(self.random.bytes(n));
+                    self.compare_forecast(&file);
+                }
+            }
+        }
+    }
+
     /// Workspaces of every length near the one that a head asks for.
     fn workspaces(&mut self) {
         for (m, s) in SIZES {
@@ -410,13 +507,17 @@ impl Comparison {
         }
     }
 
-    /// Accepted designs of the larger sizes, each m, s and k at least once, judged whole.
+    /// Accepted designs of the larger sizes, each m, s and k at least once, judged whole, and what they are when the last sharing of
+    /// their last stage is wrong.
     fn large(&mut self) {
         for (m, s) in SIZES {
             for k in 1..=4 {
                 let costly = m * s > 16 && k != 1 + (m + s) % 2;
                 if !costly {
-                    self.compare_file(&encode(&make::identity(m, s, k)));
+                    let mut design = make::identity(m, s, k);
+                    self.compare_file(&encode(&design));
+                    make::wrong_at_last(&mut design.stages[k - 1], m, s, k % s, k % m);
+                    self.compare_file(&encode(&design));
                 }
             }
         }
@@ -458,6 +559,8 @@ impl Comparison {
                 _ => {
                     let file = make::noise(&mut self.random);
                     self.compare_file(&file);
+                    let file = make::head(&mut self.random);
+                    self.compare_forecast(&file);
                     continue;
                 }
             };
@@ -487,8 +590,9 @@ fn main() {
     let mut c = Comparison::new(seed);
     c.edges();
     c.changes();
+    c.heads();
     c.large();
-    println!("edges, changes and large designs: {} files, {:.1} s", c.files, start.elapsed().as_secs_f64());
+    println!("edges, changes, heads and large designs: {} files, {:.1} s", c.files, start.elapsed().as_secs_f64());
     c.generated(files);
 
     let mut complete = true;
@@ -499,8 +603,13 @@ fn main() {
         }
     }
     complete &= c.reads.say("read", &[0, 1, 2, 3, 4, 5, 6, 7]);
+    complete &= c.forecasts.say("forecast", &[0, 1, 2, 3, 4]);
     // 11 cannot occur: a chain of tables that equals a permutation is made of permutations.
     complete &= c.verdicts.say("judge", &[0, 1, 2, 3, 4, 5, 6, 7, 8, 9, 10, 12, 13, 14]);
+    complete &= c.correctness.say("correctness", true);
+    // Uniformity cannot stop at the last sharing: one output would be met twice and one never, and all outputs would sum to the sum of
+    // these two; but they sum to zero, since component j ignores share j.
+    complete &= c.uniformity.say("uniformity", false);
     complete &= c.runs.say("run", &[0, 1, 2, 3, 4, 5, 6, 7, 15]);
     complete &= c.produced.say("produce", &[0, 3, 4, 5, 8, 16, 17]);
     complete &= c.passages.say("passages", &[0, 3, 4, 5, 17]);

@@ -143,6 +143,14 @@ fn moved(random: &mut Random, stage: &Stage, m: usize, s: usize) -> Stage {
     Stage { table: stage.table.clone(), components }
 }
 
+/// Changes one list by the term of all variables, which is 1 at the last sharing alone: a correct stage is then wrong there and nowhere
+/// else.
+pub fn wrong_at_last(stage: &mut Stage, m: usize, s: usize, j: usize, bit: usize) {
+    let mut all = [0; 5];
+    all[..s].fill(((1 << m) - 1) as u8);
+    flip(&mut stage.components[j][bit], Product::of(&all));
+}
+
 /// A design with s shares of m bits and k stages, whose stages are mostly correct.
 pub fn design(random: &mut Random, m: usize, s: usize, k: usize) -> Design {
     let wild = random.once_in(6);
@@ -163,6 +171,10 @@ pub fn design(random: &mut Random, m: usize, s: usize, k: usize) -> Design {
                 let factors = random.below(m * s + 1);
                 let p = product(random, m, s, factors);
                 flip(&mut stage.components[j][bit], Product::of(&p));
+            }
+            7 if random.once_in(2) => {
+                let (j, bit) = (random.below(s), random.below(m));
+                wrong_at_last(&mut stage, m, s, j, bit);
             }
             _ => {}
         }
@@ -289,6 +301,18 @@ pub fn long_list(random: &mut Random, m: usize, s: usize, terms: usize) -> Vec<u
         record.extend(term.to_le_bytes());
     }
     drop(file.splice(start..end, record));
+    file
+}
+
+/// A head record, mostly a good one, of numbers at and near the limits, and bytes of no design after it.
+pub fn head(random: &mut Random) -> Vec<u8> {
+    let mut file = vec![3, 0, 1, 0, random.below(8) as u8, random.below(7) as u8, random.below(6) as u8];
+    if random.once_in(4) {
+        let at = random.below(file.len());
+        file[at] = random.byte();
+    }
+    let n = random.below(12);
+    file.extend(random.bytes(n));
     file
 }
 

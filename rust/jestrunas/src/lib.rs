@@ -6,7 +6,11 @@
 //!     3, 0, 1, 0, 1, 3, 1, 2, 0, 2, 0, 0, 1, 2, 0, 2, 0, 0, 1, 4, 0, 3, 0, 2, 0, 0, 0, 4, 0, 3, 0, 4, 0, 0, 0, 4, 0, 3, 0,
 //!     1, 0, 0, 0, 0, 0, 4, 0,
 //! ];
-//! assert_eq!(jestrunas::judge(&design).unwrap().stages, 1);
+//! let forecast = jestrunas::forecast(&design[..7]).unwrap();
+//! assert_eq!((forecast.workspace, forecast.trials), (1, 16));
+//!
+//! let accepted = jestrunas::judge(&design).unwrap();
+//! assert_eq!((accepted.stages, accepted.trials), (1, 16));
 //! assert_eq!(jestrunas::run(&design, [1, 0, 0, 0, 0]), Ok([0, 0, 1, 0, 0]));
 //!
 //! let refusal = jestrunas::judge(&design[..40]).unwrap_err();
@@ -126,6 +130,8 @@ impl std::error::Error for Reason {}
 pub struct Accepted {
     /// k, the number of stages, each found correct, non-complete and uniform.
     pub stages: usize,
+    /// The trials that the verdict took: those of the forecast.
+    pub trials: usize,
 }
 
 /// A design file that does not read, or that the verdict refuses.
@@ -136,12 +142,14 @@ pub struct Refusal {
     pub place: usize,
     /// For reason 13 the lowest component that depends on its own share, counted from 1; otherwise 0.
     pub component: usize,
+    /// The trials that the verdict took up to the fault: for reasons 1 to 11 none, never more than those of the forecast.
+    pub trials: usize,
 }
 
 impl fmt::Display for Refusal {
     /// The three numbers, as the verdict program prints them, and what they mean.
     fn fmt(&self, f: &mut fmt::Formatter<'_>) -> fmt::Result {
-        let Refusal { reason, place, component } = self;
+        let Refusal { reason, place, component, .. } = self;
         write!(f, "{} {place} {component}: ", reason.number())?;
         match reason {
             Reason::CutShort => write!(f, "the record at byte {place} is cut short"),
@@ -168,9 +176,18 @@ pub type Verdict = Result<Accepted, Refusal>;
 /// The three numbers of a verdict: reason, place, component.
 pub fn numbers(verdict: &Verdict) -> [usize; 3] {
     match verdict {
-        Ok(Accepted { stages }) => [0, *stages, 0],
-        Err(Refusal { reason, place, component }) => [reason.number(), *place, *component],
+        Ok(Accepted { stages, .. }) => [0, *stages, 0],
+        Err(Refusal { reason, place, component, .. }) => [reason.number(), *place, *component],
     }
+}
+
+/// What a verdict takes at most, known from the head record of the file. A trial puts one sharing through one stage.
+#[derive(Clone, Copy, Debug, PartialEq, Eq, Hash)]
+pub struct Forecast {
+    /// The workspace that the verdict needs, in bytes: 2^(m · s) / 8.
+    pub workspace: usize,
+    /// The most trials that the verdict takes: 2 · k · 2^(m · s), which every accepted design takes.
+    pub trials: usize,
 }
 
 /// The workspace that is enough for every design: 2^20 / 8 bytes.
@@ -190,31 +207,34 @@ fn reason(number: usize) -> Option<Reason> {
     }
 }
 
-fn refusal(answer: native::Verdict) -> Result<usize, Refusal> {
-    match reason(answer.reason) {
-        None => Ok(answer.place),
-        Some(reason) => Err(Refusal { reason, place: answer.place, component: answer.component }),
-    }
-}
-
 fn done(number: usize) -> Result<(), Reason> {
     reason(number).map_or(Ok(()), Err)
 }
 
 /// Reads a design file: the first fault in file order, reasons 1 to 7. `Ok` says that the file reads, and nothing of its verdict.
 pub fn read(file: &[u8]) -> Result<(), Refusal> {
-    refusal(native::read(file)).map(|_| ())
+    let native::Verdict { reason: number, place, component } = native::read(file);
+    reason(number).map_or(Ok(()), |reason| Err(Refusal { reason, place, component, trials: 0 }))
 }
 
-/// The verdict on a design file, in a workspace of its own.
+/// What a verdict on a design file takes, without judging. The head record, the first seven bytes, decides it, whatever follows: a
+/// refusal is that of reading this record, reasons 1 to 4.
+pub fn forecast(file: &[u8]) -> Result<Forecast, Reason> {
+    let native::Forecast { reason: number, workspace, trials } = native::forecast(file);
+    reason(number).map_or(Ok(Forecast { workspace, trials }), Err)
+}
+
+/// The verdict on a design file, in a workspace of its own, as large as the forecast says.
 pub fn judge(file: &[u8]) -> Verdict {
-    judge_in(file, &mut vec![0; WORKSPACE_MAX])
+    let workspace = forecast(file).map_or(0, |forecast| forecast.workspace);
+    judge_in(file, &mut vec![0; workspace])
 }
 
 /// The verdict on a design file, in a lent workspace. For reasons 1 to 9 the workspace is untouched; otherwise its first
 /// 2^(m · s) / 8 bytes are zero afterwards and the rest is untouched.
 pub fn judge_in(file: &[u8], workspace: &mut [u8]) -> Verdict {
-    refusal(native::judge(file, workspace)).map(|stages| Accepted { stages })
+    let native::Judged { reason: number, place, component, trials } = native::judge(file, workspace);
+    reason(number).map_or(Ok(Accepted { stages: place, trials }), |reason| Err(Refusal { reason, place, component, trials }))
 }
 
 /// Runs the chain of a design file on five shares, unused ones zero: the output shares of the last stage.
@@ -291,7 +311,7 @@ mod tests {
     fn a_produced_box_is_accepted() {
         let file = produce(3, 3, &[0, 1, 2, 3, 4, 5, 7, 6]).unwrap();
         assert_eq!(read(&file), Ok(()));
-        assert_eq!(judge(&file), Ok(Accepted { stages: 1 }));
+        assert_eq!(judge(&file), Ok(Accepted { stages: 1, trials: 1024 }));
         assert_eq!(numbers(&judge(&file)), [0, 1, 0]);
         let out = run(&file, [6, 1, 1, 0, 0]).unwrap();
         assert_eq!(out[0] ^ out[1] ^ out[2], 7);
@@ -301,13 +321,14 @@ mod tests {
     fn a_box_without_a_uniform_form_is_refused() {
         let file = produce(3, 3, &[0, 1, 2, 4, 3, 6, 7, 5]).unwrap();
         let refusal = judge(&file).unwrap_err();
-        assert_eq!(refusal, Refusal { reason: Reason::NotUniform, place: 1, component: 0 });
+        assert_eq!(refusal, Refusal { reason: Reason::NotUniform, place: 1, component: 0, trials: 650 });
         assert_eq!(refusal.to_string(), "14 1 0: stage 1 is not uniform");
     }
 
     #[test]
     fn refusals_are_errors() {
         assert_eq!(judge(&[]).unwrap_err().reason, Reason::CutShort);
+        assert_eq!(forecast(&[]), Err(Reason::CutShort));
         assert_eq!(produce(4, 2, &[]), Err(Reason::LimitBroken));
         assert_eq!(run(&[], [0; 5]), Err(Reason::CutShort));
         assert_eq!(to_table(1, &[0, 1], &mut [0]), Err(Reason::OutputTooShort));

@@ -11,6 +11,23 @@ pub struct Verdict {
 
 #[derive(Clone, Copy, Debug, PartialEq, Eq)]
 #[repr(C)]
+pub struct Judged {
+    pub reason: usize,
+    pub place: usize,
+    pub component: usize,
+    pub trials: usize,
+}
+
+#[derive(Clone, Copy, Debug, PartialEq, Eq)]
+#[repr(C)]
+pub struct Forecast {
+    pub reason: usize,
+    pub workspace: usize,
+    pub trials: usize,
+}
+
+#[derive(Clone, Copy, Debug, PartialEq, Eq)]
+#[repr(C)]
 pub struct Shares {
     pub share: [u8; 5],
 }
@@ -31,7 +48,8 @@ pub struct Produced {
 
 extern "C" {
     fn jestrunas_read(file: *const u8, file_len: usize) -> Verdict;
-    fn jestrunas_judge(file: *const u8, file_len: usize, workspace: *mut u8, workspace_len: usize) -> Verdict;
+    fn jestrunas_forecast(file: *const u8, file_len: usize) -> Forecast;
+    fn jestrunas_judge(file: *const u8, file_len: usize, workspace: *mut u8, workspace_len: usize) -> Judged;
     fn jestrunas_run(file: *const u8, file_len: usize, shares: Shares) -> Run;
     fn jestrunas_produce(m: usize, s: usize, table: *const u8, table_len: usize, output: *mut u8, output_len: usize) -> Produced;
     fn jestrunas_to_coefficients(m: usize, input: *const u8, input_len: usize, output: *mut u8, output_len: usize) -> usize;
@@ -42,7 +60,11 @@ pub fn read(file: &[u8]) -> Verdict {
     unsafe { jestrunas_read(file.as_ptr(), file.len()) }
 }
 
-pub fn judge(file: &[u8], workspace: &mut [u8]) -> Verdict {
+pub fn forecast(file: &[u8]) -> Forecast {
+    unsafe { jestrunas_forecast(file.as_ptr(), file.len()) }
+}
+
+pub fn judge(file: &[u8], workspace: &mut [u8]) -> Judged {
     unsafe { jestrunas_judge(file.as_ptr(), file.len(), workspace.as_mut_ptr(), workspace.len()) }
 }
 

@@ -96,6 +96,13 @@ pub struct Fault {
     pub place: usize,
 }
 
+/// What the head record of a file says.
+pub(crate) struct Head {
+    pub m: usize,
+    pub s: usize,
+    pub k: usize,
+}
+
 struct Reader<'a> {
     file: &'a [u8],
     at: usize,
@@ -123,6 +130,21 @@ impl<'a> Reader<'a> {
         let Some(body) = rest.get(..length) else { return refuse(1) };
         self.at = place + 4 + length;
         content(body).or_else(refuse)
+    }
+
+    fn head(&mut self) -> Result<Head, Fault> {
+        self.record(
+            1,
+            |length| length == 3,
+            |body| {
+                let (m, s, k) = (usize::from(body[0]), usize::from(body[1]), usize::from(body[2]));
+                if within_limits(m, s) && (1..=4).contains(&k) {
+                    Ok(Head { m, s, k })
+                } else {
+                    Err(4)
+                }
+            },
+        )
     }
 
     fn table(&mut self, m: usize) -> Result<Vec<u8>, Fault> {
@@ -155,21 +177,15 @@ impl<'a> Reader<'a> {
     }
 }
 
+/// The head record of a file, whatever follows it, or its fault.
+pub(crate) fn head(file: &[u8]) -> Result<Head, Fault> {
+    Reader { file, at: 0 }.head()
+}
+
 /// What a file means, or its first fault.
 pub fn read(file: &[u8]) -> Result<Design, Fault> {
     let mut reader = Reader { file, at: 0 };
-    let (m, s, k) = reader.record(
-        1,
-        |length| length == 3,
-        |body| {
-            let (m, s, k) = (usize::from(body[0]), usize::from(body[1]), usize::from(body[2]));
-            if within_limits(m, s) && (1..=4).contains(&k) {
-                Ok((m, s, k))
-            } else {
-                Err(4)
-            }
-        },
-    )?;
+    let Head { m, s, k } = reader.head()?;
     let table = reader.table(m)?;
     let mut stages = Vec::new();
     for _ in 0..k {

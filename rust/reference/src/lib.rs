@@ -9,12 +9,12 @@ mod produce;
 pub mod samples;
 
 pub use design::{encode, read, Design, Fault, Product, Shares, Stage};
-pub use judge::{judge, run, verdict};
+pub use judge::{forecast, judge, run, verdict};
 pub use passage::{to_coefficients, to_table};
 pub use produce::{direct_sharing, produce};
 
-/// A verdict: reason, place, component.
-pub type Answer = [usize; 3];
+/// A verdict: reason, place, component, and the trials that it took.
+pub type Answer = [usize; 4];
 
 /// Whether m and s keep the limits that a head fixes.
 pub fn within_limits(m: usize, s: usize) -> bool {

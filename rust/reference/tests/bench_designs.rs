@@ -3,7 +3,7 @@
 use reference::samples::{
     chain, cubic, d, full, keccak_row, leaking, one_bit, six_bits, twenty_share_bits, PRESENT, PRESENT_F, PRESENT_G,
 };
-use reference::{encode, judge, produce, read, repeats, run, to_coefficients, to_table, Answer};
+use reference::{encode, forecast, judge, produce, read, repeats, run, to_coefficients, to_table, Answer, Product};
 
 const D: [u8; 47] = [
     3, 0, 1, 0, 1, 3, 1, 2, 0, 2, 0, 0, 1, 2, 0, 2, 0, 0, 1, 4, 0, 3, 0, 2, 0, 0, 0, 4, 0, 3, 0, 4, 0, 0, 0, 4, 0, 3, 0, 1, 0, 0,
@@ -33,20 +33,21 @@ fn digits(text: &str) -> Vec<u8> {
 fn d_and_its_neighbours() {
     assert_eq!(encode(&d()), D);
     assert_eq!(encode(&one_bit([&[2], &[4], &[1]])), D);
-    assert_eq!(verdict(&D), [0, 1, 0]);
-    assert_eq!(verdict(&encode(&one_bit([&[2], &[4], &[]]))), [12, 1, 0]);
-    assert_eq!(verdict(&encode(&one_bit([&[1], &[2], &[4]]))), [13, 1, 1]);
-    assert_eq!(verdict(&encode(&one_bit([&[2, 4], &[1], &[]]))), [14, 1, 0]);
+    assert_eq!(verdict(&D), [0, 1, 0, 16]);
+    assert_eq!(verdict(&encode(&one_bit([&[2], &[4], &[]]))), [12, 1, 0, 2]);
+    assert_eq!(verdict(&encode(&one_bit([&[1], &[2], &[4]]))), [13, 1, 1, 8]);
+    assert_eq!(verdict(&encode(&one_bit([&[2, 4], &[1], &[]]))), [14, 1, 0, 13]);
     let with_box = |table: [u8; 2]| {
         let mut file = D;
         file[11..13].copy_from_slice(&table);
         file
     };
-    assert_eq!(verdict(&with_box([1, 0])), [10, 0, 0]);
-    assert_eq!(verdict(&with_box([0, 0])), [8, 0, 0]);
-    assert_eq!(judge(&with_box([0, 0]), &mut []), [8, 0, 0]);
-    assert_eq!(judge(&D, &mut []), [9, 0, 0]);
-    assert_eq!(judge(&D, &mut [7]), [0, 1, 0]);
+    assert_eq!(verdict(&with_box([1, 0])), [10, 0, 0, 0]);
+    assert_eq!(verdict(&with_box([0, 0])), [8, 0, 0, 0]);
+    assert_eq!(judge(&with_box([0, 0]), &mut []), [8, 0, 0, 0]);
+    assert_eq!(judge(&D, &mut []), [9, 0, 0, 0]);
+    assert_eq!(judge(&D, &mut [7]), [0, 1, 0, 16]);
+    assert_eq!(judge(&D[..40], &mut [7]), [1, 35, 0, 0]);
     assert_eq!(run(&D, [1, 0, 0, 0, 0]), (0, [0, 0, 1, 0, 0]));
     assert_eq!(run(&D, [2, 0, 0, 0, 0]), (15, [0; 5]));
 }
@@ -54,16 +55,61 @@ fn d_and_its_neighbours() {
 #[test]
 fn the_workspace_afterwards() {
     let mut workspace = [9; 3];
-    assert_eq!(judge(&D, &mut workspace), [0, 1, 0]);
+    assert_eq!(judge(&D, &mut workspace), [0, 1, 0, 16]);
     assert_eq!(workspace, [0, 9, 9]);
+}
+
+#[test]
+fn trials_of_a_later_stage() {
+    // three stages of D: those before the fault take 16 trials each
+    let mut stages = d();
+    stages.stages = vec![stages.stages[0].clone(); 3];
+    assert_eq!(verdict(&encode(&stages)), [0, 3, 0, 48]);
+    let with_last = |lists| {
+        let mut design = stages.clone();
+        design.stages[2] = one_bit(lists).stages[0].clone();
+        verdict(&encode(&design))
+    };
+    assert_eq!(with_last([&[2], &[4], &[]]), [12, 3, 0, 34]);
+    assert_eq!(with_last([&[1], &[2], &[4]]), [13, 3, 1, 40]);
+    assert_eq!(with_last([&[2, 4], &[1], &[]]), [14, 3, 0, 45]);
+}
+
+#[test]
+fn trials_of_correctness() {
+    // wrong where this term is 1: the constant from the first sharing on, then variables of rising numbers, all of them at the last
+    let wrong_at = |factors| {
+        let mut design = chain(3, 3, &[&digits("01234576")]);
+        design.stages[0].components[0][0].push(Product::of(&factors));
+        verdict(&encode(&design))
+    };
+    assert_eq!(wrong_at([0, 0, 0, 0, 0]), [12, 1, 0, 1]);
+    assert_eq!(wrong_at([1, 0, 0, 0, 0]), [12, 1, 0, 2]);
+    assert_eq!(wrong_at([0, 2, 0, 0, 0]), [12, 1, 0, 17]);
+    assert_eq!(wrong_at([0, 0, 4, 0, 0]), [12, 1, 0, 257]);
+    assert_eq!(wrong_at([7, 7, 7, 0, 0]), [12, 1, 0, 512]);
+}
+
+#[test]
+fn forecasts() {
+    assert_eq!(forecast(&D), [0, 1, 16]);
+    assert_eq!(forecast(&[3, 0, 1, 0, 4, 5, 1]), [0, 131_072, 2_097_152]);
+    assert_eq!(forecast(&[3, 0, 1, 0, 5, 5, 1]), [4, 0, 0]);
+    assert_eq!(forecast(&[]), [1, 0, 0]);
+    assert_eq!(forecast(&[3, 0, 2, 0, 1]), [2, 0, 0]);
+    assert_eq!(forecast(&[4, 0, 1, 0, 1, 3, 1]), [3, 0, 0]);
+    assert_eq!(forecast(&D[..6]), [1, 0, 0]);
+    // whatever follows
+    assert_eq!(forecast(&[3, 0, 1, 0, 1, 3, 1, 255, 255]), [0, 1, 16]);
+    assert_eq!(forecast(&D[..7]), [0, 1, 16]);
 }
 
 #[test]
 fn heads() {
     let head = |m, s| verdict(&[3, 0, 1, 0, m, s, 1]);
-    assert_eq!(head(4, 5), [1, 7, 0]);
+    assert_eq!(head(4, 5), [1, 7, 0, 0]);
     for (m, s) in [(5, 5), (6, 4), (4, 2)] {
-        assert_eq!(head(m, s), [4, 0, 0]);
+        assert_eq!(head(m, s), [4, 0, 0, 0]);
     }
 }
 
@@ -72,7 +118,7 @@ fn long_lists() {
     // four bits, three shares: the first list has all 4,096 terms
     let identity: Vec<u8> = (0..16).collect();
     let mut design = chain(4, 3, &[&identity[..]]);
-    let all = (0..4096).map(|number| reference::Product::from_number(number, 4, 3).unwrap()).collect();
+    let all = (0..4096).map(|number| Product::from_number(number, 4, 3).unwrap()).collect();
     design.stages[0].components[0][0] = all;
     let file = encode(&design);
     assert!(read(&file).is_ok());
@@ -80,9 +126,9 @@ fn long_lists() {
     let mut longer = file[..47].to_vec();
     longer.extend([0x04, 0x40, 3, 0]);
     longer.extend([0; 16_388]);
-    assert_eq!(verdict(&longer), [3, 47, 0]);
+    assert_eq!(verdict(&longer), [3, 47, 0, 0]);
     // a wrong kind and a body that is cut: the kind comes first
-    assert_eq!(verdict(&[3, 0, 2, 0, 1]), [2, 0, 0]);
+    assert_eq!(verdict(&[3, 0, 2, 0, 1]), [2, 0, 0, 0]);
 }
 
 #[test]
@@ -95,10 +141,10 @@ fn producing() {
         .map(|bits| bits[0].iter().map(|product| product.number(1)).collect())
         .collect();
     assert_eq!(lists, [vec![0, 2], vec![4], vec![1]]);
-    assert_eq!(verdict(&produced(3, 3, &digits("01234576")).unwrap()), [0, 1, 0]);
-    assert_eq!(verdict(&produced(3, 3, &digits("01243675")).unwrap()), [14, 1, 0]);
+    assert_eq!(verdict(&produced(3, 3, &digits("01234576")).unwrap()), [0, 1, 0, 1024]);
+    assert_eq!(verdict(&produced(3, 3, &digits("01243675")).unwrap()), [14, 1, 0, 650]);
     assert_eq!(produced(4, 3, &cubic()), Err(16));
-    assert_eq!(verdict(&produced(4, 4, &cubic()).unwrap()), [0, 1, 0]);
+    assert_eq!(verdict(&produced(4, 4, &cubic()).unwrap()), [0, 1, 0, 131_072]);
 }
 
 #[test]
@@ -115,10 +161,10 @@ fn coefficients() {
 fn worked_designs() {
     let present = chain(4, 3, &[&PRESENT_G, &PRESENT_F]);
     assert_eq!(present.table, PRESENT);
-    assert_eq!(verdict(&encode(&present)), [0, 2, 0]);
+    assert_eq!(verdict(&encode(&present)), [0, 2, 0, 16_384]);
     assert!(!repeats(&keccak_row()));
-    assert_eq!(verdict(&encode(&leaking())), [13, 1, 2]);
-    assert_eq!(verdict(&produced(6, 3, &six_bits()).unwrap()), [0, 1, 0]);
+    assert_eq!(verdict(&encode(&leaking())), [13, 1, 2, 512]);
+    assert_eq!(verdict(&produced(6, 3, &six_bits()).unwrap()), [0, 1, 0, 524_288]);
     assert_eq!(encode(&full()).len(), 32_767);
     assert!(read(&encode(&full())).is_ok());
     assert!(read(&encode(&twenty_share_bits())).is_ok());

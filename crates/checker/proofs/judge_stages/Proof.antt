@@ -5,16 +5,20 @@ use native.Mathlib.Omega.{arith}
 use lib.Dec.{lit≤}
 use borrow.Author.Needs.{needs}
 use Rattle.checker.proofs.StageFacts.{stage-fits}
-use Rattle.checker.proofs.JudgingStages.{Faultless, stages-start, stages-done, stages-stop, stages-go}
+use Rattle.checker.proofs.JudgingStages.{FaultlessTo, stages-start, stages-done, stages-stop, stages-go, trials-fit}
 use Rattle.checker.proofs.Workspace.{same-room, same-zeroed, same-length, same-through, same-length-through}
 use Rattle.checker.proofs.judge_stages.Statement.{statement}
 use Rattle.checker.proofs.judge_stages.Tie as tie
 
 abbrev Inv-loop : tie.InvT-loop
-Inv-loop file layout workspace₀ k t₀ workspace t = (t ≤ k) × Faultless file t × (workspace ≡ workspace₀)
+Inv-loop file layout workspace₀ k t₀ trials₀ workspace t trials = (t ≤ k) × FaultlessTo file t trials × (workspace ≡ workspace₀)
 
 abbrev μ-loop : tie.MeasureT-loop
-μ-loop file layout workspace₀ k t₀ workspace t = k - t
+μ-loop file layout workspace₀ k t₀ trials₀ workspace t trials = k - t
+
+-- A need with a name is checked by itself: the log of a wrong program shows it, whatever need before it fails.
+loop-again : tie.Need-loop-again Inv-loop μ-loop
+loop-again c = search (arith, stages-go, same-through)
 
 pub judge-stages-spec : {M : Type 1} → statement M
 judge-stages-spec =
@@ -24,11 +28,12 @@ judge-stages-spec =
     μ-loop
     (λ c. search (stages-start, arith))
     (λ c κs. search (arith, same-room, same-zeroed))
+    (λ c. search trials-fit)
     (λ c. search same-length-through)
     (λ c. search (stages-stop, same-through))
     (λ c. search (lit≤, stage-fits))
     (λ c. search needs)
-    (λ c. search (arith, stages-go, same-through))
+    loop-again
     (λ c κs. search needs)
     (λ c. search same-length)
     (λ c. search stages-done))

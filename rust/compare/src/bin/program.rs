@@ -13,7 +13,7 @@ const MOST: usize = 32_768;
 
 /// The line due: 18 before anything is read as a record, otherwise the verdict in a workspace of 32,768 bytes.
 fn due(file: &[u8]) -> String {
-    let [reason, place, component] = if file.len() > MOST { [18, 0, 0] } else { reference::judge(file, &mut [0; MOST]) };
+    let [reason, place, component, _] = if file.len() > MOST { [18, 0, 0, 0] } else { reference::judge(file, &mut [0; MOST]) };
     format!("{reason} {place} {component}\n")
 }
 

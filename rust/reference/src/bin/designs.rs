@@ -1,8 +1,9 @@
-//! Writes the sample designs of designs/ to the folder that the argument names, and verdicts.txt with a line for each:
-//! the file, and reason, place and component of its verdict.
+//! Writes the sample designs of designs/ to the folder that the argument names, and two lists with a line for each:
+//! verdicts.txt, the file, and reason, place and component of its verdict; trials.txt, the file, the workspace and the trials of its
+//! forecast, and the trials of its verdict.
 
 use reference::samples::{chain, d, keccak_row, keccak_uniform, leaking, PRESENT_F, PRESENT_G};
-use reference::{encode, verdict};
+use reference::{encode, forecast, verdict};
 use std::path::Path;
 
 fn main() -> std::io::Result<()> {
@@ -17,13 +18,16 @@ fn main() -> std::io::Result<()> {
         ("leaks.bin", leaking()),
         ("uneven.bin", chain(3, 3, &[&[0, 1, 2, 4, 3, 6, 7, 5]])),
     ];
-    let mut verdicts = String::new();
+    let (mut verdicts, mut trials) = (String::new(), String::new());
     for (name, design) in samples {
         let file = encode(&design);
         std::fs::write(Path::new(&folder).join(name), &file)?;
-        let [reason, place, component] = verdict(&design, 131_072);
+        let [reason, place, component, taken] = verdict(&design, 131_072);
+        let [_, workspace, most] = forecast(&file);
         verdicts += &format!("{name} {reason} {place} {component}\n");
+        trials += &format!("{name} {workspace} {most} {taken}\n");
     }
     print!("{verdicts}");
+    std::fs::write(Path::new(&folder).join("trials.txt"), trials)?;
     std::fs::write(Path::new(&folder).join("verdicts.txt"), verdicts)
 }

@@ -54,7 +54,7 @@ fn main() -> io::Result<()> {
             }
             _ => panic!("line {}: {line}", i + 1),
         };
-        let [reason, place, component] = reference::judge(&file, &mut vec![0; 131_072]);
+        let [reason, place, component, _] = reference::judge(&file, &mut vec![0; 131_072]);
         writeln!(out, " verdict {reason} {place} {component}")?;
         if reason == 0 {
             accepted += 1;

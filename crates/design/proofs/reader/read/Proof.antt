@@ -1,7 +1,6 @@
--- `design::read` meets its contract: the head record here, the others by `walk`.
+-- `design::read` meets its contract: the head record by `read_head`, the others by `walk`.
 use borrow.Author.Needs.{needs}
-use lib.Dec.{lit<}
-use Rattle.design.proofs.Answering.{head-wrong, head-there, head-read, head-limits, head-faultless, beyond-limits}
+use Rattle.design.proofs.Answering.{read-refused, head-read, head-limits, head-faultless}
 use Rattle.design.proofs.reader.read.Statement.{statement}
 use Rattle.design.proofs.reader.read.Tie as tie
 
@@ -11,17 +10,6 @@ read-spec =
     (tie.spec
     (λ c κs. search needs)
     (λ c κs. search needs)
-    (λ c. search head-wrong)
-    (λ c. search (lit<, head-there))
-    (λ c κs. search needs)
-    (λ c. search (lit<, head-there))
-    (λ c κs. search needs)
-    (λ c. search (lit<, head-there))
-    (λ c κs. search needs)
-    (λ c κs. search needs)
-    (λ c. search needs)
+    (λ c. search read-refused)
     (λ c κs. search (head-limits, head-read, head-faultless))
-    (λ c. search needs)
-    (λ c κs. search needs)
-    (λ c. search needs)
-    (λ c. search beyond-limits))
+    (λ c. search needs))

@@ -1,13 +1,13 @@
--- `correct_stage` meets its contract: the lists and the table that it hands on are those of the stage.
+-- `try_correctness` meets its contract: the lists and the table that it hands on are those of the stage.
 use borrow.Author.Needs.{needs}
 use Rattle.design.proofs.Found.{limits, width-high}
 use Rattle.checker.proofs.Agreeing.{stage-agrees}
 use Rattle.checker.proofs.StageFacts.{some-bits, table-points, lists-stand}
-use Rattle.checker.proofs.stages.correct_stage.Statement.{statement}
-use Rattle.checker.proofs.stages.correct_stage.Tie as tie
+use Rattle.checker.proofs.stages.try_correctness.Statement.{statement}
+use Rattle.checker.proofs.stages.try_correctness.Tie as tie
 
-pub correct-stage-spec : {M : Type 1} → statement M
-correct-stage-spec =
+pub try-correctness-spec : {M : Type 1} → statement M
+try-correctness-spec =
     tie.close
     (tie.spec
     (λ c κs. search needs)
