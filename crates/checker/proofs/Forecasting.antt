@@ -3,12 +3,10 @@
 use mathlib.Core.Path.{_≡_, sym, ap, ap₂, _∙_}
 use mathlib.Core.List.{List}
 use Prim.Native.Nat.{ℕ, _*_, _^_, _<_, _≤_}
-use native.Mathlib.Nat.{mul-le-mul}
 use native.Mathlib.Omega.{arith}
-use lib.Pow.{pow-mono}
 use borrow.Author.Tests.{eq-eqb, ne-eqb}
 use Rattle.finite.proofs.Testing.{pick-true, pick-false}
-use Rattle.design.specs.Limits.{greatestShareBits, greatestStages}
+use Rattle.design.specs.Limits.{greatestShareBits}
 use Rattle.design.specs.Layout.{headRead}
 use Rattle.design.specs.inside.Described.{Limits}
 use Rattle.design.specs.declared.Head.{Head}
@@ -17,28 +15,17 @@ use Rattle.design.proofs.Limits.{bounds}
 use Rattle.design.proofs.Answering.{head-reason, head-read, head-limits}
 use Rattle.checker.specs.Verdict.{workspaceFor}
 use Rattle.checker.specs.Trials.{mostTrials, forecastFor, noForecast, forecast}
+use Rattle.checker.proofs.Passes.{few-trials}
 
 -- ---- a head within the limits
 
 module _ (h : Head) (w : Limits h) where
-  bits-within : h .m * h .s ≤ greatestShareBits
-  bits-within = bounds _ _ _ w .bits
-
-  pub bits-fit : h .m * h .s < 2 ^ 64
-  bits-fit = omega (arith, bits-within)
-
-  pub bits-power : h .m * h .s < 64
-  bits-power = omega (arith, bits-within)
-
   -- two passes of each stage, and all their trials, in a word
   pub passes-fit : 2 * h .k < 2 ^ 64
   passes-fit = omega (arith, bounds _ _ _ w .k-high)
 
   pub most-fits : (n : ℕ) → n ≡ 2 ^ (h .m * h .s) → 2 * h .k * n < 2 ^ 64
-  most-fits n e =
-      let a : n ≤ 2 ^ greatestShareBits = rw e (pow-mono bits-within) in
-      let b : 2 * h .k ≤ 2 * greatestStages = omega (arith, bounds _ _ _ w .k-high) in
-      omega (arith, mul-le-mul b a)
+  most-fits n e = let b = bounds _ _ _ w in rw e (omega (arith, few-trials (h .m * h .s) (h .k) (b .bits) (b .k-high)))
 
   pub most-is : (n : ℕ) → n ≡ 2 ^ (h .m * h .s) → 2 * h .k * n ≡ mostTrials (h .m) (h .s) (h .k)
   most-is n e = ap (λ (x : ℕ). 2 * h .k * x) e
@@ -52,7 +39,7 @@ module _ (f : List ℕ) (x : HeadRead) (ex : x ≡ headRead f) where
 
   module _ (z : x .reason ≡ 0) where
     pub head-bits : x .head .m * x .head .s ≤ greatestShareBits
-    head-bits = bits-within (x .head) (head-limits f x ex z)
+    head-bits = bounds _ _ _ (head-limits f x ex z) .bits
 
     pub foreseen : (w n : ℕ) → w ≡ workspaceFor (x .head .m) (x .head .s) → n ≡ mostTrials (x .head .m) (x .head .s) (x .head .k)
         → record { reason = 0; workspace = w; trials = n } ≡ forecast f

@@ -6,14 +6,13 @@ use mathlib.Core.Path.{_≡_, refl, sym, ap, ap₂, _∙_}
 use mathlib.Core.List.{List}
 use mathlib.Core.Bool.{Bool, true, false, not, Bool·not-not}
 use Prim.Native.Nat.{ℕ, _+_, _*_, _^_, _<_, _≤_}
-use native.Mathlib.Nat.{mul-le-mul}
 use native.Mathlib.Omega.{arith}
 use borrow.Author.Tests.{not-false}
 use Rattle.finite.specs.Tests.{any, first}
 use Rattle.finite.proofs.Testing.{first-some, first-past, tried-most}
 use Rattle.finite.proofs.Faults.{fault-here, fault-past, fault-none}
 use Rattle.anf.specs.Tables.{Permutation}
-use Rattle.design.specs.Limits.{greatestShareBits, greatestStages}
+use Rattle.design.specs.Limits.{greatestShareBits}
 use Rattle.design.specs.Design.{Stage, stageOf}
 use Rattle.design.specs.Reading.{meaning}
 use Rattle.design.specs.inside.Described.{Describes}
@@ -30,7 +29,7 @@ use Rattle.checker.specs.declared.Verdict.{Verdict}
 use Rattle.checker.specs.declared.Judged.{Judged}
 use Rattle.checker.specs.declared.stages.Pass.{Pass}
 use Rattle.checker.proofs.StageFacts.{few-sharings}
-use Rattle.checker.proofs.Passes.{correctness-stopped, uniformity-stopped, both-none, both-more, both-most, stage-answers, tries-most, at-fault}
+use Rattle.checker.proofs.Passes.{correctness-stopped, uniformity-stopped, few-trials, both-none, both-more, both-most, stage-answers, tries-most, at-fault}
 use Rattle.checker.proofs.Steps.{stageThen, stagesFrom, stages-next, stages-end, stages-all, stage-fault, stage-fine}
 use Rattle.checker.proofs.Repeating.{none-repeat, tables-permute}
 
@@ -182,6 +181,5 @@ module _ (f : List ℕ) (l : Layout) (d : Describes f l) (t trials : ℕ) (so : 
     trials-fit =
         let b : meaning f .m * meaning f .s ≤ greatestShareBits = rw (described d .m, described d .s) at (bits-high f l d) in
         let c = few-sharings (meaning f .m * meaning f .s) _ b refl in
-        let a : 2 * t ≤ 2 * greatestStages = omega (arith, described d .bounds .k-high) in
-        let e = mul-le-mul {n₁ = 2 * t} {m₁ = 2 ^ (meaning f .m * meaning f .s)} {n₂ = 2 * greatestStages} {m₂ = 4294967296} a (omega arith) in
+        let e = few-trials (meaning f .m * meaning f .s) t b (omega (arith, described d .bounds .k-high)) in
         omega (arith, so .took, both-most (meaning f) t, stage-took, tries-most (meaning f) t (stage .verdict .reason))

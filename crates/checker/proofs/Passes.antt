@@ -3,15 +3,17 @@
 use mathlib.Core.Path.{_≡_, refl, sym, ap, ap₂, _∙_}
 use mathlib.Core.Bool.{Bool, true, false, not, _||_}
 use Prim.Native.Nat.{ℕ, zero, suc, _+_, _*_, _-_, _^_, _<_, _≤_}
-use native.Mathlib.Nat.{mul-add, add-mul}
+use native.Mathlib.Nat.{mul-add, add-mul, mul-le-mul}
 use native.Mathlib.Numerals.{add-one}
 use native.Mathlib.Omega.{arith}
 use lib.Dec.{eqb}
+use lib.Pow.{pow-mono}
 use borrow.Author.Tests.{le-leb}
 use Rattle.finite.specs.Tests.{pick, any, total}
 use Rattle.finite.specs.Maps.{repeats}
 use Rattle.finite.proofs.Testing.{and-intro, pick-true, any-at, any-not, tried-to, tried-all, tried-most}
 use Rattle.finite.proofs.Faults.{fault-either, fault-none}
+use Rattle.design.specs.Limits.{greatestShareBits, greatestStages}
 use Rattle.design.specs.Design.{Stage, Design, stageOf}
 use Rattle.threshold.specs.Stages.{output, correct}
 use Rattle.checker.specs.Trials.{sumsWrong, outputMet, correctnessTries, uniformityTries, correctnessAt, uniformityAt, bothPasses, trialsOf, counted}
@@ -48,6 +50,10 @@ module _ (w s : ℕ) (g : Stage) where
 
 pub twice-more : (n c : ℕ) → 2 * suc n * c ≡ 2 * n * c + c + c
 twice-more n c = omega (arith, mul-add 2 1 n, add-mul 2 (2 * n) c)
+
+-- within the limits there are few
+pub few-trials : (bits t : ℕ) → bits ≤ greatestShareBits → t ≤ greatestStages → 2 * t * 2 ^ bits ≤ 2 * greatestStages * 2 ^ greatestShareBits
+few-trials bits t b h = mul-le-mul {n₁ = 2 * t} {m₁ = 2 ^ bits} {n₂ = 2 * greatestStages} {m₂ = 2 ^ greatestShareBits} (omega arith) (pow-mono b)
 
 module _ (d : Design) where
   pub both-none : bothPasses d 0 ≡ 0

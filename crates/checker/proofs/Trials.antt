@@ -2,7 +2,6 @@
 -- Assumes nothing.
 use mathlib.Core.Path.{_≡_, refl, sym, ap, ap₂, _∙_, subst}
 use mathlib.Core.Logic.{_↔_, _≢_}
-use mathlib.Core.Bool.{Bool, true, false}
 use mathlib.Core.List.{List}
 use Prim.Native.Nat.{ℕ, zero, suc, _+_, _*_, _-_, _^_, _<_, _≤_}
 use native.Mathlib.Nat.{le-refl, add-mul, mul-le-mul}
@@ -10,9 +9,9 @@ use native.Mathlib.Numerals.{add-one}
 use native.Mathlib.Omega.{arith}
 use lib.ListN.{take}
 use lib.Dec.{eqb}
-use borrow.Author.Tests.{eqb-true, eq-eqb, ne-eqb, not-true}
+use borrow.Author.Tests.{eq-eqb, ne-eqb, not-true}
 use Rattle.finite.specs.Tests.{pick}
-use Rattle.finite.proofs.Testing.{pick-true, pick-false}
+use Rattle.finite.proofs.Testing.{pick-true, pick-false, pick-number}
 use Rattle.design.specs.Design.{Design, WellFormed, stageOf}
 use Rattle.design.specs.Reading.{Reading, refused, means, headOf, headFault, meaning, reading}
 use Rattle.design.specs.declared.Head.{Head}
@@ -47,11 +46,7 @@ forecast-head f g e =
 module _ (f : List ℕ) where
   forecast-reason : forecast f .reason ≡ headFault f
   unfolding forecast
-  forecast-reason = go (eqb (headFault f) 0) refl
-    where
-      go : (b : Bool) → eqb (headFault f) 0 ≡ b → pick b (forecastFor (headOf f)) (noForecast (headFault f)) .reason ≡ headFault f
-      go true e = sym (eqb-true _ _ e)
-      go false e = refl
+  forecast-reason = pick-number (λ (x : Forecast). x .reason) (headFault f) _ _ refl refl
 
   pub forecast-range : forecast f .reason ≤ 4
   forecast-range = rw forecast-reason (head-range f)
@@ -93,9 +88,9 @@ module _ (d : Design) (wf : WellFormed d) (tables : (i : ℕ) → i < d .k → T
 -- ---- the trials by outcome, and that none takes more than is forecast
 
 -- what holds of the trials of a verdict v on a file that reads as d
-pub record Taken (d : Design) (v : Verdict) : Type 0 where
-  pub listed : trialsOf d v ≡ trialsByOutcome d v
-  pub most : trialsOf d v ≤ mostTrials (d .m) (d .s) (d .k)
+record Taken (d : Design) (v : Verdict) : Type 0 where
+  listed : trialsOf d v ≡ trialsByOutcome d v
+  most : trialsOf d v ≤ mostTrials (d .m) (d .s) (d .k)
 
 module _ (d : Design) where
   none-listed : (v : Verdict) → 1 ≤ v .reason → v .reason ≤ 11 → trialsByOutcome d v ≡ 0

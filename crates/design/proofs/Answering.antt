@@ -6,13 +6,12 @@ use mathlib.Core.Path.{_≡_, refl, sym, ap, _∙_}
 use mathlib.Core.List.{List}
 use mathlib.Core.Bool.{Bool, true, false}
 use native.Mathlib.Omega.{arith}
-use borrow.Author.Tests.{eqb-true, eq-eqb, ne-eqb}
-use lib.Dec.{eqb}
+use borrow.Author.Tests.{eq-eqb, ne-eqb}
 use lib.ListN.{length, set, length-set}
 use mir.Syntax.{w64}
 use mir.Val.{Fits}
 use Rattle.finite.specs.Tests.{pick, tabulate}
-use Rattle.finite.proofs.Testing.{pick-true, pick-false, tabulate-more}
+use Rattle.finite.proofs.Testing.{pick-true, pick-false, pick-number, tabulate-more}
 use Rattle.records.specs.Bytes.{byte, u16At}
 use Rattle.design.specs.Layout.{refusedHead, headRead, noStarts, startOf, startsTo, refusedLayout, layoutOf}
 use Rattle.design.specs.inside.Described.{Limits}
@@ -163,11 +162,7 @@ module _ (f : List ℕ) where
 module _ (f : List ℕ) (x : HeadRead) (ex : x ≡ headRead f) where
   pub head-reason : x .reason ≡ headFault f
   unfolding headRead
-  head-reason = ap (λ (y : HeadRead). y .reason) ex ∙ go (eqb (headFault f) 0) refl
-    where
-      go : (b : Bool) → eqb (headFault f) 0 ≡ b → pick {A = HeadRead} b (record { reason = 0; head = headOf f }) (refusedHead (headFault f)) .reason ≡ headFault f
-      go true e = sym (eqb-true _ _ e)
-      go false e = refl
+  head-reason = ap (λ (y : HeadRead). y .reason) ex ∙ pick-number (λ (y : HeadRead). y .reason) (headFault f) _ _ refl refl
 
   module _ (z : x .reason ≡ 0) where
     none : headFault f ≡ 0

@@ -8,6 +8,8 @@ use Prim.Native.Nat.{ℕ, zero, suc, _+_, _≤_, _<_}
 use native.Mathlib.Nat.{le-of-suc-le-suc, not-suc-le-zero, le-refl, le-step, eq-or-lt-of-le}
 use native.Mathlib.Numerals.{add-one}
 use native.Mathlib.Omega.{arith}
+use lib.Dec.{eqb}
+use borrow.Author.Tests.{eqb-true}
 use lib.ListN.{length, getD, drop, set}
 use lib.Seq.{set-at, drop-cons, ext-getD}
 use Rattle.finite.specs.Tests.{pick, implies, all, any, first, tried, tabulate}
@@ -105,6 +107,14 @@ pick-passed false r p e = absurd (omega arith)
 pub pick-missed : (b : Bool) (r : ℕ) → 0 < r → pick b r 0 ≡ 0 → b ≡ false
 pick-missed true r p e = absurd (omega arith)
 pick-missed false r p e = refl
+
+-- an answer that is picked by whether a number is 0, and that has the number either way
+pub pick-number : {A : Type 0} (number : A → ℕ) (n : ℕ) (a b : A) → number a ≡ 0 → number b ≡ n → number (pick (eqb n 0) a b) ≡ n
+pick-number {A} number n a b ea eb = go (eqb n 0) refl
+  where
+    go : (t : Bool) → eqb n 0 ≡ t → number (pick t a b) ≡ n
+    go true e = ea ∙ sym (eqb-true n 0 e)
+    go false e = eb
 
 -- ---- all and any. i < suc n is n itself or below n.
 

@@ -1,5 +1,6 @@
 -- `most_trials` meets its contract: within the limits the product fits a word.
-use Rattle.checker.proofs.Forecasting.{bits-fit, bits-power, passes-fit, most-fits, most-is}
+use Rattle.design.proofs.Heading.{bits-fit, bits-small}
+use Rattle.checker.proofs.Forecasting.{passes-fit, most-fits, most-is}
 use Rattle.checker.proofs.forecasts.most_trials.Statement.{statement}
 use Rattle.checker.proofs.forecasts.most_trials.Tie as tie
 
@@ -13,6 +14,6 @@ most-trials-spec =
     (tie.spec
     (λ c. search passes-fit)
     (λ c. search bits-fit)
-    (λ c κs. search bits-power)
+    (λ c κs. search bits-small)
     (λ c. search most-fits)
     returns)
