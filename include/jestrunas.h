@@ -55,7 +55,7 @@ extern "C" {
 #define JESTRUNAS_CHAIN_IS_NOT_BOX 10    /* the chain of tables is not S */
 #define JESTRUNAS_STAGE_REPEATS 11       /* a G repeats an entry */
 #define JESTRUNAS_NOT_CORRECT 12         /* some sharing's output shares do not sum to G */
-#define JESTRUNAS_NOT_NON_COMPLETE 13    /* a component depends on the share of its own number */
+#define JESTRUNAS_NOT_NON_COMPLETE 13    /* a component depends on every share */
 #define JESTRUNAS_NOT_UNIFORM 14         /* the sharings of some G(x) do not each come from one sharing of x */
 /* Refusals of the other operations. */
 #define JESTRUNAS_BAD_SHARE 15           /* run: a used share is 2^m or more, or an unused one is not 0 */
@@ -67,7 +67,8 @@ extern "C" {
  * The answer of reading, and the three numbers of a verdict.
  * Reason 0: place is 0 for reading and k, the number of stages, for the verdict; component 0.
  * Reasons 1 to 7: place is the first byte of the record at fault (for 7, the first byte after the end), component 0.
- * Reasons 8, 9, 10: 0, 0. Reasons 11 to 14: place is the stage; component is 0 but for 13.
+ * Reasons 8, 9, 10: 0, 0. Reasons 11 to 14: place is the stage; component is 0 but for 13, where it is the lowest that
+ * depends on every share.
  */
 typedef struct {
     size_t reason;
@@ -138,7 +139,9 @@ jestrunas_forecast_t jestrunas_forecast(const uint8_t *file, size_t file_len);
 /*
  * The verdict on a design file: 0, k, 0 exactly when the file reads, S is a permutation, the workspace is enough, the
  * chain of tables is S, and every stage is correct, non-complete and uniform; otherwise the first fault (1 to 14). And
- * its trials, which are never more than the forecast's.
+ * its trials, which are never more than the forecast's. Non-complete: each component ignores at least one share, the same
+ * one for all its bits. Of an accepted design every component meets every setting of the shares on which it depends
+ * equally often for all secrets; and every setting of s - 1 shares, one that it ignores left out, exactly once for each.
  * With reasons 1 to 9 the workspace is untouched; otherwise its first 2^(m * s) / 8 bytes are zero afterwards and the
  * rest is untouched. It may hold anything before. The file is only read.
  */
@@ -153,7 +156,8 @@ jestrunas_run_t jestrunas_run(const uint8_t *file, size_t file_len, jestrunas_sh
 /*
  * Writes the direct sharing of a table in s shares as a design file of one stage. Answers 0 and the file's length,
  * the bytes past it untouched; or 4, 3, 5, 8, 16 or 17, tested in this order, and length 0, the output untouched.
- * What is produced reads, is correct and non-complete: with enough workspace its verdict is 0 or 14.
+ * What is produced reads, is correct and non-complete, component c ignoring share c: with enough workspace its verdict
+ * is 0 or 14.
  */
 jestrunas_produced_t jestrunas_produce(size_t m, size_t s, const uint8_t *table, size_t table_len, uint8_t *output,
                                        size_t output_len);

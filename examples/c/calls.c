@@ -17,9 +17,12 @@ static const uint8_t d[47] = {3, 0, 1, 0, 1, 3, 1, 2, 0, 2, 0, 0, 1, 2, 0, 2, 0,
 /* D with its last list empty: not correct. */
 static const uint8_t wrong_d[43] = {3, 0, 1, 0, 1, 3, 1, 2, 0, 2, 0, 0, 1, 2, 0, 2, 0, 0, 1, 4, 0, 3,
                                     0, 2, 0, 0, 0, 4, 0, 3, 0, 4, 0, 0, 0, 0, 0, 3, 0, 0, 0, 4, 0};
-/* D with component j reading share j alone: not non-complete. */
-static const uint8_t own_d[47] = {3, 0, 1, 0, 1, 3, 1, 2, 0, 2, 0, 0, 1, 2, 0, 2, 0, 0, 1, 4, 0, 3, 0, 1,
-                                  0, 0, 0, 4, 0, 3, 0, 2, 0, 0, 0, 4, 0, 3, 0, 4, 0, 0, 0, 0, 0, 4, 0};
+/* D with component j reading share j alone: accepted too. */
+static const uint8_t kept_d[47] = {3, 0, 1, 0, 1, 3, 1, 2, 0, 2, 0, 0, 1, 2, 0, 2, 0, 0, 1, 4, 0, 3, 0, 1,
+                                   0, 0, 0, 4, 0, 3, 0, 2, 0, 0, 0, 4, 0, 3, 0, 4, 0, 0, 0, 0, 0, 4, 0};
+/* D with component 1 reading every share and the others none: not non-complete. */
+static const uint8_t every_d[47] = {3, 0, 1, 0, 1, 3, 1, 2, 0, 2, 0, 0, 1, 2, 0, 2, 0, 0, 1, 12, 0, 3, 0, 1,
+                                    0, 0, 0, 2, 0, 0, 0, 4, 0, 0, 0, 0, 0, 3, 0, 0, 0, 3, 0, 0, 0, 4, 0};
 /* D with component 1 reading shares 2 and 3, component 2 share 1 and component 3 none: not uniform. */
 static const uint8_t uneven_d[47] = {3, 0, 1, 0, 1, 3, 1, 2, 0, 2, 0, 0, 1, 2, 0, 2, 0, 0, 1, 8, 0, 3, 0, 2,
                                      0, 0, 0, 4, 0, 0, 0, 4, 0, 3, 0, 1, 0, 0, 0, 0, 0, 3, 0, 0, 0, 4, 0};
@@ -63,7 +66,8 @@ int main(void) {
     expect(judged(jestrunas_judge(d, sizeof d, workspace, 2), JESTRUNAS_ACCEPTED, 1, 0, 16), "judge D");
     expect(workspace[0] == 0 && workspace[1] == 9, "the workspace after a verdict");
     expect(judged(jestrunas_judge(wrong_d, sizeof wrong_d, workspace, 2), JESTRUNAS_NOT_CORRECT, 1, 0, 2), "judge a wrong D");
-    expect(judged(jestrunas_judge(own_d, sizeof own_d, workspace, 2), JESTRUNAS_NOT_NON_COMPLETE, 1, 1, 8), "judge own shares");
+    expect(judged(jestrunas_judge(kept_d, sizeof kept_d, workspace, 2), JESTRUNAS_ACCEPTED, 1, 0, 16), "judge kept shares");
+    expect(judged(jestrunas_judge(every_d, sizeof every_d, workspace, 2), JESTRUNAS_NOT_NON_COMPLETE, 1, 1, 8), "judge every share");
     expect(judged(jestrunas_judge(uneven_d, sizeof uneven_d, workspace, 2), JESTRUNAS_NOT_UNIFORM, 1, 0, 13), "judge an uneven D");
     memcpy(other, d, sizeof d);
     other[11] = 1;

@@ -1,5 +1,5 @@
 -- The degree bound, for any number of shares: a table with a coefficient at a set of s or more variables is no sum of s functions of s shares of
--- which the j-th ignores share j. The set is split into s blocks, and both sides are summed over all tuples of a subset of each block: the table's
+-- which each ignores some share. The set is split into s blocks, and both sides are summed over all tuples of a subset of each block: the table's
 -- side is the coefficient, and each function's side cancels in pairs.
 use mathlib.Core.Path.{_≡_, refl, sym, ap, ap₂, _∙_}
 use mathlib.Core.Logic.{_≢_}
@@ -120,13 +120,13 @@ multi-below n (suc s) bs F h =
 
 -- f of a sum of shares is a sum of functions of which each ignores one share: then f has no coefficient at the union of so many blocks
 pub blocks-bound : (n : ℕ) (bs : List ℕ) (f : ℕ → ℕ) (F : ℕ → List ℕ → ℕ) → Blocks (2 ^ n) bs
-    → ((j : ℕ) → j < length bs → IgnoresPlace n (length bs) j (F j))
+    → ((j : ℕ) → j < length bs → (e : ℕ) × (e < length bs) × IgnoresPlace n (length bs) e (F j))
     → ((xs : List ℕ) → Tuple n (length bs) xs → f (xorAll xs) ≡ xorBelow (length bs) (λ j. F j xs))
     → subsetSum n f (xorAll bs) ≡ 0
 blocks-bound n bs f F h i e =
     sym (multi-union n bs f h)
     ∙ multi-ext n bs (λ xs. f (xorAll xs)) (λ xs. xorBelow (length bs) (λ j. F j xs)) e
-    ∙ multi-below n (length bs) bs F (λ j l. multi-ignores n j bs (F j) h l (i j l))
+    ∙ multi-below n (length bs) bs F (λ j l. let w = i j l in multi-ignores n (w .0) bs (F j) h (w .1) (w .2))
 
 blocks-lift : (n : ℕ) (bs : List ℕ) → Blocks (2 ^ n) bs → Blocks (2 ^ suc n) bs
 blocks-lift n [] h = tt
@@ -172,7 +172,7 @@ unfolding xorAll xorBelow
 xorAll-below [] = refl
 xorAll-below (x ∷ xs) = ap (bitXor x) (xorAll-below xs) ∙ sym (xorBelow-first (length xs) (λ j. getD (x ∷ xs) j 0))
 
-module _ (n s : ℕ) (f : ℕ → ℕ) (F : ℕ → List ℕ → ℕ) (some : 1 ≤ s) (ignores : (j : ℕ) → j < s → IgnoresPoint n s j (F j))
+module _ (n s : ℕ) (f : ℕ → ℕ) (F : ℕ → List ℕ → ℕ) (some : 1 ≤ s) (ignores : (j : ℕ) → j < s → (e : ℕ) × (e < s) × IgnoresPoint n s e (F j))
     (sums : (xs : List ℕ) → Points n s xs → xorBelow s (λ j. F j xs) ≡ f (xorBelow s (λ j. getD xs j 0))) where
   -- no coefficient at a set of s or more variables
   pub shares-bound : (u : ℕ) → u < 2 ^ n → s ≤ ones u → subsetSum n f u ≢ 0 → ⊥
@@ -183,7 +183,7 @@ module _ (n s : ℕ) (f : ℕ → ℕ) (F : ℕ → List ℕ → ℕ) (some : 1 
       c
       (ap (subsetSum n f) (sym (w .3))
       ∙ blocks-bound n (w .0) f F (w .2)
-      (rw size (λ j k xs p. ignores j k xs (tuple-points n s xs p)))
+      (rw size (λ j k. let e = ignores j k in (e .0, e .1, λ xs p. e .2 xs (tuple-points n s xs p))))
       (rw size (λ xs p. ap f (xorAll-below xs ∙ ap (λ (k : ℕ). xorBelow k (λ j. getD xs j 0)) (p .0)) ∙ sym (sums xs (tuple-points n s xs p)))))
 
 -- ---- the degree of a table
@@ -232,7 +232,7 @@ degree-some n f h =
     go u l d p true e q = absurd (omega arith)
     go u l d p false e q = (u, l, eqb-false (subsetSum n f u) 0 e, q)
 
-module _ (n s : ℕ) (f : ℕ → ℕ) (F : ℕ → List ℕ → ℕ) (some : 1 ≤ s) (ignores : (j : ℕ) → j < s → IgnoresPoint n s j (F j))
+module _ (n s : ℕ) (f : ℕ → ℕ) (F : ℕ → List ℕ → ℕ) (some : 1 ≤ s) (ignores : (j : ℕ) → j < s → (e : ℕ) × (e < s) × IgnoresPoint n s e (F j))
     (sums : (xs : List ℕ) → Points n s xs → xorBelow s (λ j. F j xs) ≡ f (xorBelow s (λ j. getD xs j 0))) where
   -- the degree is less than the number of shares
   pub degree-bound : s ≤ degree n f → ⊥

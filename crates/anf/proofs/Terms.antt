@@ -1,6 +1,6 @@
 -- Lists of terms. At its first term a rising list has the value 1, and below it 0; so the values tell the list, and the least term that names a
 -- variable of a group shows that the value depends on it.
-use mathlib.Core.Path.{_≡_, refl, sym, ap, _∙_}
+use mathlib.Core.Path.{_≡_, refl, sym, ap, ap₂, _∙_}
 use mathlib.Core.Logic.{_≢_}
 use mathlib.Core.Bool.{Bool, true, false, false≢true, not, _||_}
 use mathlib.Core.List.{List, [], _∷_, _++_}
@@ -11,12 +11,12 @@ use native.Mathlib.Decide.{decLt}
 use native.Mathlib.Omega.{arith}
 use lib.Dec.{eqb}
 use lib.ListN.{length, getD}
-use lib.Bits.{bitAnd, bitXor, xor-zero-r, xor-lt, and-comm, and-self, xor-comm, xor-add-and}
-use borrow.Author.Tests.{eqb-true, eqb-false, ltb-true, lt-ltb, le-ltb}
-use Rattle.finite.specs.Tests.{pick}
+use lib.Bits.{bitAnd, bitOr, bitXor, xor-zero-r, xor-lt, and-comm, and-self, and-le-r, or-zero-l, or-add-and, xor-comm, xor-add-and}
+use borrow.Author.Tests.{eqb-true, eqb-false, ne-eqb, ltb-true, lt-ltb, le-ltb}
+use Rattle.finite.specs.Tests.{pick, any}
 use Rattle.finite.specs.Sets.{subset}
-use Rattle.finite.proofs.Testing.{or-left, or-right, or-none}
-use Rattle.finite.proofs.Xor.{xor-assoc, xor-left-comm, xor-left-cancel, xor-ring, and-assoc, and-xor, xor-and}
+use Rattle.finite.proofs.Testing.{or-left, or-right, or-none, any-some, any-none}
+use Rattle.finite.proofs.Xor.{xor-assoc, xor-left-comm, xor-left-cancel, xor-ring, and-assoc, and-xor, and-or, xor-and}
 use Rattle.finite.proofs.Sums.{pick-lt}
 use Rattle.finite.proofs.Subsets.{subset-self, subset-gt, subset-iff}
 use Rattle.anf.specs.Terms.{valueAt, before, TermList, named, names, clear, Depends}
@@ -201,13 +201,33 @@ names-exactly n group l t = (names-depends n group l t, depends-names n group l)
 
 -- ---- what a list names, term by term
 
-pub names-at : (group : ℕ) (ts : List ℕ) (i : ℕ) → i < length ts → named group (getD ts i 0) ≡ true → names group ts ≡ true
+names-at : (group : ℕ) (ts : List ℕ) (i : ℕ) → i < length ts → named group (getD ts i 0) ≡ true → names group ts ≡ true
 unfolding names
 names-at group [] i l e = absurd (not-suc-le-zero l)
 names-at group (t ∷ ts) zero l e = or-left _ _ e
 names-at group (t ∷ ts) (suc i) l e = or-right (named group t) (names group ts) (names-at group ts i (le-of-suc-le-suc l) e)
 
-pub names-none : (group : ℕ) (ts : List ℕ) → ((i : ℕ) → i < length ts → named group (getD ts i 0) ≡ false) → names group ts ≡ false
+names-none : (group : ℕ) (ts : List ℕ) → ((i : ℕ) → i < length ts → named group (getD ts i 0) ≡ false) → names group ts ≡ false
 unfolding names
 names-none group [] h = refl
 names-none group (t ∷ ts) h = or-none (h 0 (omega arith)) (names-none group ts (λ i l. h (suc i) (omega arith)))
+
+pub names-any : (group : ℕ) (ts : List ℕ) → names group ts ≡ any (length ts) (λ i. named group (getD ts i 0))
+names-any group ts = go (any (length ts) one) refl
+  where
+    one : ℕ → Bool
+    one i = named group (getD ts i 0)
+
+    go : (t : Bool) → any (length ts) one ≡ t → names group ts ≡ t
+    go true e = let r = any-some (length ts) one e in names-at group ts (r .0) (r .1) (r .2)
+    go false e = names-none group ts (any-none (length ts) one e)
+
+-- a union of terms names a variable of the group exactly when one of them does
+pub named-or : (group a b : ℕ) → named group (bitOr a b) ≡ (named group a || named group b)
+named-or group a b =
+    ap (λ (x : ℕ). not (eqb x 0)) (and-comm (bitOr a b) group ∙ and-or group a b ∙ ap₂ bitOr (and-comm group a) (and-comm group b))
+    ∙ go (bitAnd a group) (bitAnd b group) (eqb (bitAnd a group) 0) refl
+  where
+    go : (p q : ℕ) (t : Bool) → eqb p 0 ≡ t → not (eqb (bitOr p q) 0) ≡ (not t || not (eqb q 0))
+    go p q true e = ap (λ (x : ℕ). not (eqb (bitOr x q) 0)) (eqb-true p 0 e) ∙ ap (λ (x : ℕ). not (eqb x 0)) (or-zero-l q)
+    go p q false e = ap not (ne-eqb (bitOr p q) 0 (λ z. eqb-false p 0 e (omega (arith, or-add-and p q, and-le-r p q))))

@@ -1,6 +1,6 @@
--- From the verdict's reason 0 alone: every setting of every component of every stage is met exactly once whatever the secret, every run answers what the
--- definitions give, and the output shares sum to S of the secret. Each accepted stage carries sharings one to one, and so does their chain.
--- Assumes nothing.
+-- From the verdict's reason 0 alone: every component ignores a share, every setting of all shares but one is met exactly once at every stage whatever the
+-- secret, what a component reads is met equally often, every run answers what the definitions give, and the output shares sum to S of the secret.
+-- Each accepted stage carries sharings one to one, and so does their chain. Assumes nothing.
 use mathlib.Core.Path.{_≡_, sym, ap, _∙_}
 use mathlib.Core.List.{List}
 use Prim.Native.Nat.{ℕ, _^_, _<_, _≤_}
@@ -15,7 +15,7 @@ use Rattle.threshold.specs.Stages.{component}
 use Rattle.threshold.specs.Chain.{handed, chained}
 use Rattle.threshold.specs.Running.{packed}
 use Rattle.threshold.proofs.Tables.{chain-tables}
-use Rattle.threshold.proofs.Meetings.{AllBijective, met-once, outcome, test-independent, value-independent}
+use Rattle.threshold.proofs.Meetings.{AllBijective, met-once, outcome, setting-independent, value-independent, reads-equally}
 use Rattle.threshold.proofs.Packing.{share-fits, packed-lt, packed-sum, packed-unpacked, unpacked-packed, unpacked-length, unpacked-fits, unpacked-sum}
 use Rattle.threshold.proofs.Running.{running-success, running-sharing}
 use Rattle.checker.specs.Verdict.{verdict}
@@ -68,7 +68,9 @@ module _ (f : List ℕ) (n : ℕ) (d : Design) (a : Accepted f n d) where
   accepted-assured =
       record {
         reads = a .reads;
-        met = λ x lx i j q li lj lq. met-once (d .m) (d .s) (d .stages) bijective x i j q lx lj lq;
+        ignores = λ i j li lj. a .stages i li .nonComplete j lj;
+        met = λ x lx i e q li le lq. met-once (d .m) (d .s) (d .stages) bijective x i e q lx le lq;
+        equally = λ x y lx ly i j q li lj. reads-equally (d .m) (d .s) (d .stages) bijective x y i lx ly j q (a .stages i li .nonComplete j lj);
         runs = λ x lx l h. (
           running-success f l d (a .reads) (h .fit),
           let n = same-sharings .number x l h in
@@ -84,9 +86,9 @@ module _ (f : List ℕ) (n : ℕ) (d : Design) (a : Accepted f n d) where
   accepted-blind : Blind d
   accepted-blind =
       record {
-        settings = λ x y i j lx ly li lj p. test-independent (d .m) (d .s) (d .stages) bijective x y i j lx ly lj p;
+        settings = λ x y i e lx ly li le p. setting-independent (d .m) (d .s) (d .stages) bijective x y i lx ly e le p;
         values = λ x y i j z lx ly li lj.
-            value-independent (d .m) (d .s) (d .stages) bijective (component (d .m) (stageOf d i .lists) j) x y i j z (a .stages i li .nonComplete j lj) lx ly lj;
+            value-independent (d .m) (d .s) (d .stages) bijective x y i lx ly (component (d .m) (stageOf d i .lists) j) z (a .stages i li .nonComplete j lj);
       }
 
 -- The one theorem: for every file and every workspace length, from the verdict's reason 0.

@@ -1,8 +1,8 @@
--- Every bench row of the verdict, the forecast and running, by computing.
+-- Every bench row of the verdict, the forecast, what a component reads and running, by computing.
 use mathlib.Core.Path.{_≡_, refl}
 use mathlib.Core.List.{map}
 use Prim.Native.Nat.{ℕ}
-use Rattle.finite.specs.Tests.{any, first, tried, total}
+use Rattle.finite.specs.Tests.{all, any, first, tried, total}
 use Rattle.finite.specs.Sums.{xorBelow}
 use Rattle.finite.specs.Sets.{subset}
 use Rattle.finite.specs.Maps.{repeats, metBefore}
@@ -13,12 +13,12 @@ use Rattle.design.specs.Encode.{stageBytes, encode}
 use Rattle.records.specs.Bytes.{termBytes}
 use Rattle.design.proofs.Bench.{computing}
 use Rattle.threshold.specs.Sharing.{share, sum, setting, putShare}
-use Rattle.threshold.specs.Stages.{output, correct, readsOwn, nonComplete, sharingsTo, uniform}
-use Rattle.threshold.specs.Chain.{chained, handed}
+use Rattle.threshold.specs.Stages.{output, correct, dependsOn, dependsOnAll, nonComplete, sharingsTo, uniform}
+use Rattle.threshold.specs.Chain.{chained, handed, readsAlike, readMeetings}
 use Rattle.threshold.specs.Running.{packed, unpacked, shareFits, sharesFit, runningOn, running}
 use Rattle.checker.specs.Verdict.{chainIsBox, firstRepeating, stagesFaults, judged, judgedReading, verdict}
 use Rattle.checker.specs.Trials.{bothPasses, trialsOf, trials, judging, forecast}
-use Rattle.checker.specs.Bench.{rows, forecasts, runs}
+use Rattle.checker.specs.Bench.{rows, forecasts, meetingRows, runs}
 
 -- the definitions that computing opens: of a file that is written,
 unfoldable writing : ℕ
@@ -27,7 +27,7 @@ writing = 0
 
 -- of a sharing and a stage,
 unfoldable sharing : ℕ
-unfolding any first total xorBelow subset valueAt share sum setting putShare output correct readsOwn nonComplete sharingsTo uniform
+unfolding all any first total xorBelow subset valueAt share sum setting putShare output correct dependsOn dependsOnAll nonComplete sharingsTo uniform
 sharing = 0
 
 -- of the verdict with its trials, and of a run
@@ -46,6 +46,10 @@ bench-verdicts = refl
 pub bench-forecasts : map (λ r. forecast (r .file)) forecasts ≡ map (λ r. r .answer) forecasts
 unfolding computing forecast
 bench-forecasts = refl
+
+pub bench-meetings : map (λ r. readMeetings 1 3 (r .stages) (r .secret) 0 0 (r .sharing)) meetingRows ≡ map (λ r. r .times) meetingRows
+unfolding sharing handed readsAlike readMeetings
+bench-meetings = refl
 
 pub bench-runs : map (λ r. running (r .file) (r .shares)) runs ≡ map (λ r. r .answer) runs
 unfolding sending

@@ -21,11 +21,11 @@ use Rattle.design.specs.Design.{Design, WellFormed, stageOf}
 use Rattle.design.specs.Reading.{Reading, refused, means, reading}
 use Rattle.design.proofs.Theorems.{read-formed}
 use Rattle.design.proofs.Reasons.{refused-for, reason-range}
-use Rattle.threshold.specs.Stages.{correct, readsOwn, nonComplete, uniform}
+use Rattle.threshold.specs.Stages.{correct, dependsOnAll, nonComplete, uniform}
 use Rattle.threshold.proofs.Tables.{chain-tables}
-use Rattle.threshold.proofs.Tests.{correct↔, ignores↔, nonComplete↔, not-nonComplete, uniform↔}
+use Rattle.threshold.proofs.Tests.{correct↔, ignoresSome↔, nonComplete↔, not-nonComplete, uniform↔}
 use Rattle.checker.specs.Verdict.{answer, workspaceFor, chainIsBox, tableRepeats, firstRepeating, judged, judgedReading, verdict}
-use Rattle.checker.specs.Accepted.{ChainIsBox, TablePermutes, CorrectAt, IgnoresOwn, UniformAt, SoundAt, Accepted, Judgeable, SoundBefore, Explained}
+use Rattle.checker.specs.Accepted.{ChainIsBox, TablePermutes, CorrectAt, IgnoresSomeAt, UniformAt, SoundAt, Accepted, Judgeable, SoundBefore, Explained}
 use Rattle.checker.specs.Accepted.{refusal, fault-8, fault-9, fault-10, fault-11, fault-12, fault-13, fault-14, accepted}
 use Rattle.checker.specs.declared.Verdict.{Verdict}
 use Rattle.checker.proofs.Steps.{stageThen, stagesFrom, stages-next, stages-end}
@@ -52,15 +52,15 @@ module _ (f : List ℕ) (n : ℕ) (d : Design) (wf : WellFormed d) where
   either = fault-either (Explained f n)
 
   module _ (t : ℕ) (l : t < d .k) (p : SoundBefore f n d t) where
-    abbrev own : ℕ → Bool
-    own = readsOwn (d .m) (d .s) (stageOf d t)
+    abbrev dependsFully : ℕ → Bool
+    dependsFully = dependsOnAll (d .m) (d .s) (stageOf d t)
 
-    offends : not (nonComplete (d .m) (d .s) (stageOf d t)) ≡ true → CorrectAt d t → Explained f n (answer 13 (t + 1) (first (d .s) own + 1))
+    offends : not (nonComplete (d .m) (d .s) (stageOf d t)) ≡ true → CorrectAt d t → Explained f n (answer 13 (t + 1) (first (d .s) dependsFully + 1))
     offends e right =
-        let r = first-is (d .s) own (sym (not-nonComplete (d .m) (d .s) (stageOf d t)) ∙ e) in
-        fault-13 d t (first (d .s) own) p l right (r .0)
-        (λ i k. ignores↔ (d .m) (d .s) (stageOf d t) i .0 (any-none (first (d .s) own) own (r .2) i k))
-        (λ h. clash (r .1) (ignores↔ (d .m) (d .s) (stageOf d t) (first (d .s) own) .1 h))
+        let r = first-is (d .s) dependsFully (sym (not-nonComplete (d .m) (d .s) (stageOf d t)) ∙ e) in
+        fault-13 d t (first (d .s) dependsFully) p l right (r .0)
+        (λ i k. ignoresSome↔ (d .m) (d .s) (stageOf d t) i .0 (any-none (first (d .s) dependsFully) dependsFully (r .2) i k))
+        (λ h. clash (r .1) (ignoresSome↔ (d .m) (d .s) (stageOf d t) (first (d .s) dependsFully) .1 h))
 
     stage-explained : (onward : Verdict) → (SoundAt d t → Explained f n onward) → Explained f n (stageThen d t onward)
     stage-explained onward next =
@@ -151,7 +151,7 @@ module _ (f : List ℕ) (n : ℕ) (d : Design) (a : Accepted f n d) where
   accepted-answer v (fault-13 e t j p l c k b h) =
       let q = sym (same e (p .judgeable .reads)) in
       absurd
-      (subst (λ (x : Design). ¬ IgnoresOwn x t j) q h
+      (subst (λ (x : Design). ¬ IgnoresSomeAt x t j) q h
       (a .stages t (subst (λ (x : Design). t < x .k) q l) .nonComplete j (subst (λ (x : Design). j < x .s) q k)))
   accepted-answer v (fault-14 e t p l c o h) =
       let q = sym (same e (p .judgeable .reads)) in

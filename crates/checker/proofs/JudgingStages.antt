@@ -19,7 +19,7 @@ use Rattle.design.specs.inside.Described.{Describes}
 use Rattle.design.specs.declared.Layout.{Layout}
 use Rattle.design.proofs.Answered.{described}
 use Rattle.design.proofs.Found.{bits-high}
-use Rattle.threshold.specs.Stages.{component, Correct, correct, readsOwn, nonComplete, uniform}
+use Rattle.threshold.specs.Stages.{component, Correct, correct, dependsOnAll, nonComplete, uniform}
 use Rattle.threshold.proofs.Tests.{correct↔, not-nonComplete}
 use Rattle.threshold.proofs.Stages.{stage-uniform-repeats}
 use Rattle.checker.specs.Verdict.{answer, firstRepeating}
@@ -37,16 +37,16 @@ use Rattle.checker.proofs.Repeating.{none-repeat, tables-permute}
 abbrev stageIn : List ℕ → ℕ → Stage
 stageIn f t = stageOf (meaning f) t
 
--- which of its components depend on their own share
-abbrev ownIn : List ℕ → ℕ → ℕ → Bool
-ownIn f t = readsOwn (meaning f .m) (meaning f .s) (stageIn f t)
+-- which of its components depend on every share
+abbrev dependsFully : List ℕ → ℕ → ℕ → Bool
+dependsFully f t = dependsOnAll (meaning f .m) (meaning f .s) (stageIn f t)
 
 module _ (f : List ℕ) (l : Layout) (d : Describes f l) (t : ℕ) (h : t < l .head .k) where
   inside : t < meaning f .k
   inside = let e = described d .k in omega arith
 
-  same-first : first (l .head .s) (readsOwn (l .head .m) (l .head .s) (stageIn f t)) ≡ first (meaning f .s) (ownIn f t)
-  same-first = ap₂ (λ (m s : ℕ). first s (readsOwn m s (stageIn f t))) (described d .m) (described d .s)
+  same-first : first (l .head .s) (dependsOnAll (l .head .m) (l .head .s) (stageIn f t)) ≡ first (meaning f .s) (dependsFully f t)
+  same-first = ap₂ (λ (m s : ℕ). first s (dependsOnAll m s (stageIn f t))) (described d .m) (described d .s)
 
   -- r is the pass that tries whether it is correct
   module _ (v : Judged) (r : Pass) (e : r ≡ correctnessPass (l .head .m) (l .head .s) (stageIn f t)) where
@@ -65,18 +65,18 @@ module _ (f : List ℕ) (l : Layout) (d : Describes f l) (t : ℕ) (h : t < l .h
     unfolding stageJudged
     answer-wrong q is = is ∙ stage-answers (meaning f) t _ _ (sym (fault-here _ _ _ _ (tested ∙ q))) alone
 
-    module _ (q : r .stopped ≡ false) (j : ℕ) (w : j ≡ first (l .head .s) (readsOwn (l .head .m) (l .head .s) (stageIn f t))) where
-      lowest : j ≡ first (meaning f .s) (ownIn f t)
+    module _ (q : r .stopped ≡ false) (j : ℕ) (w : j ≡ first (l .head .s) (dependsOnAll (l .head .m) (l .head .s) (stageIn f t))) where
+      lowest : j ≡ first (meaning f .s) (dependsFully f t)
       lowest = w ∙ same-first
 
-      offends : not (nonComplete (meaning f .m) (meaning f .s) (stageIn f t)) ≡ any (meaning f .s) (ownIn f t)
+      offends : not (nonComplete (meaning f .m) (meaning f .s) (stageIn f t)) ≡ any (meaning f .s) (dependsFully f t)
       offends = not-nonComplete (meaning f .m) (meaning f .s) (stageIn f t)
 
       -- 13
       pub answer-reads : j < l .head .s → v ≡ counted (answer 13 (t + 1) (j + 1)) (r .tries) → v ≡ stageAnswer (meaning f) t
       unfolding stageJudged
       answer-reads k is =
-          let some = first-some (meaning f .s) (ownIn f t) (let a = described d .s in let b = lowest in omega arith) in
+          let some = first-some (meaning f .s) (dependsFully f t) (let a = described d .s in let b = lowest in omega arith) in
           is
           ∙ stage-answers (meaning f) t _ _
           (ap (λ (x : ℕ). answer 13 (t + 1) (x + 1)) lowest ∙ sym (fault-past _ _ _ _ (tested ∙ q) ∙ fault-here _ _ _ _ (offends ∙ some)))
@@ -84,8 +84,8 @@ module _ (f : List ℕ) (l : Layout) (d : Describes f l) (t : ℕ) (h : t < l .h
 
       -- u is the pass that tries whether it is uniform
       module _ (k : l .head .s ≤ j) (tables : l .head .k ≤ firstRepeating (meaning f)) (u : Pass) (x : u ≡ uniformityPass (l .head .m) (l .head .s) (stageIn f t)) where
-        none : any (meaning f .s) (ownIn f t) ≡ false
-        none = first-past (meaning f .s) (ownIn f t) (let a = described d .s in let b = lowest in omega arith)
+        none : any (meaning f .s) (dependsFully f t) ≡ false
+        none = first-past (meaning f .s) (dependsFully f t) (let a = described d .s in let b = lowest in omega arith)
 
         permutes : Permutation (meaning f .m) (stageIn f t .table)
         permutes = tables-permute (meaning f) (meaning f .k) (none-repeat (meaning f) (let a = described d .k in omega arith)) t inside

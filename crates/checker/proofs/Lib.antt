@@ -6,7 +6,7 @@ pub mod Marking
 pub mod Repeating
 pub mod Composing
 pub mod Agreeing
-pub mod OwnShare
+pub mod EveryShare
 pub mod Steps
 pub mod JudgingStages
 pub mod JudgingDesign

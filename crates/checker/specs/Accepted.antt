@@ -1,5 +1,5 @@
--- What the verdict says of a design, as facts about its tables and component functions ("Terms of threshold implementation"); and when a file is
--- accepted ("Verdict").
+-- What the verdict says of a design, as facts about its tables and component functions ("Terms of threshold implementation", "Linear layers that keep
+-- their shares"); and when a file is accepted ("Verdict").
 use Prim.Native.Nat.{ℕ, _+_, _^_, _<_, _≤_}
 use mathlib.Core.Path.{_≡_}
 use mathlib.Core.List.{List}
@@ -7,7 +7,7 @@ use Rattle.anf.specs.Tables.{entry, Permutation}
 use Rattle.design.specs.Design.{Design, stageOf}
 use Rattle.design.specs.Reading.{refused, means, reading}
 use Rattle.design.specs.Refused.{RefusedFor}
-use Rattle.threshold.specs.Stages.{component, output, Correct, Ignores, NonComplete, Uniform}
+use Rattle.threshold.specs.Stages.{component, output, Correct, IgnoresSome, NonComplete, Uniform}
 use Rattle.threshold.specs.Chain.{chained}
 use Rattle.checker.specs.Verdict.{answer, workspaceFor}
 use Rattle.checker.specs.declared.Verdict.{Verdict}
@@ -25,9 +25,9 @@ TablePermutes d t = Permutation (d .m) (stageOf d t .table)
 abbrev pub CorrectAt : Design → ℕ → Type 0
 CorrectAt d t = Correct (d .m) (d .s) (component (d .m) (stageOf d t .lists)) (stageOf d t .table)
 
--- component j, counted from 0, does not depend on share j
-abbrev pub IgnoresOwn : Design → ℕ → ℕ → Type 0
-IgnoresOwn d t j = Ignores (d .m) (d .s) j (component (d .m) (stageOf d t .lists) j)
+-- component j, counted from 0, ignores at least one share
+abbrev pub IgnoresSomeAt : Design → ℕ → ℕ → Type 0
+IgnoresSomeAt d t j = IgnoresSome (d .m) (d .s) (component (d .m) (stageOf d t .lists) j)
 
 abbrev pub NonCompleteAt : Design → ℕ → Type 0
 NonCompleteAt d t = NonComplete (d .m) (d .s) (component (d .m) (stageOf d t .lists))
@@ -73,7 +73,7 @@ pub data Explained (f : List ℕ) (n : ℕ) : Verdict → Type 0 where
   fault-10 : (d : Design) → Judgeable f n d → ¬ ChainIsBox d → Explained f n (answer 10 0 0)
   fault-11 : (d : Design) (t : ℕ) → Judgeable f n d → ChainIsBox d → t < d .k → ((i : ℕ) → i < t → TablePermutes d i) → ¬ TablePermutes d t → Explained f n (answer 11 (t + 1) 0)
   fault-12 : (d : Design) (t : ℕ) → SoundBefore f n d t → t < d .k → ¬ CorrectAt d t → Explained f n (answer 12 (t + 1) 0)
-  fault-13 : (d : Design) (t j : ℕ) → SoundBefore f n d t → t < d .k → CorrectAt d t → j < d .s → ((i : ℕ) → i < j → IgnoresOwn d t i) → ¬ IgnoresOwn d t j
+  fault-13 : (d : Design) (t j : ℕ) → SoundBefore f n d t → t < d .k → CorrectAt d t → j < d .s → ((i : ℕ) → i < j → IgnoresSomeAt d t i) → ¬ IgnoresSomeAt d t j
       → Explained f n (answer 13 (t + 1) (j + 1))
   fault-14 : (d : Design) (t : ℕ) → SoundBefore f n d t → t < d .k → CorrectAt d t → NonCompleteAt d t → ¬ UniformAt d t → Explained f n (answer 14 (t + 1) 0)
   accepted : (d : Design) → SoundBefore f n d (d .k) → Explained f n (answer 0 (d .k) 0)

@@ -1,6 +1,8 @@
--- "Bench designs" of the verdict with its trials, of the forecast and of running: tables of files, what they are given, and answers.
+-- "Bench designs" of the verdict with its trials, of the forecast and of running: tables of files, what they are given, and answers. And how often what a
+-- component reads is met.
 use Prim.Native.Nat.{ℕ}
 use mathlib.Core.List.{List, [], _∷_}
+use Rattle.design.specs.Design.{Stage}
 use Rattle.design.specs.Encode.{encode}
 use Rattle.design.specs.Bench.{fileD}
 use Rattle.threshold.specs.Running.{refusedRun}
@@ -46,7 +48,9 @@ rows =
     -- the last list empty
     row (listsD (2 ∷ []) (4 ∷ []) []) 1 (answer 12 1 0) 2 ∷
     -- component j reading share j alone
-    row (listsD (1 ∷ []) (2 ∷ []) (4 ∷ [])) 1 (answer 13 1 1) 8 ∷
+    row (listsD (1 ∷ []) (2 ∷ []) (4 ∷ [])) 1 (answer 0 1 0) 16 ∷
+    -- component 1 reading every share
+    row (listsD (1 ∷ 2 ∷ 4 ∷ []) [] []) 1 (answer 13 1 1) 8 ∷
     -- correct and non-complete, and not uniform
     row (listsD (2 ∷ 4 ∷ []) (1 ∷ []) []) 1 (answer 14 1 0) 13 ∷
     -- S is 1 0: not the chain of tables
@@ -84,6 +88,35 @@ forecasts =
     foretold (3 ∷ 0 ∷ 2 ∷ 0 ∷ 1 ∷ []) 2 0 0 ∷
     foretold (4 ∷ 0 ∷ 1 ∷ 0 ∷ 1 ∷ 3 ∷ 1 ∷ 0 ∷ []) 3 0 0 ∷
     foretold (3 ∷ 0 ∷ 1 ∷ 0 ∷ 1 ∷ 3 ∷ []) 1 0 0 ∷
+    []
+
+-- ---- what component 1 reads, in one stage of one bit in three shares
+
+pub record MeetingRow : Type 0 where
+  pub stages : List Stage
+  -- a sharing: what the component reads of it
+  pub sharing : ℕ
+  pub secret : ℕ
+  -- with how many sharings of the secret the component reads the same
+  pub times : ℕ
+
+abbrev met : List ℕ → List ℕ → List ℕ → ℕ → ℕ → ℕ → MeetingRow
+met a b c q x n = record { stages = record { table = 0 ∷ 1 ∷ []; lists = a ∷ b ∷ c ∷ [] } ∷ []; sharing = q; secret = x; times = n }
+
+abbrev pub meetingRows : List MeetingRow
+meetingRows =
+    -- it reads share 1 alone
+    met (1 ∷ []) (2 ∷ []) (4 ∷ []) 1 0 2 ∷
+    met (1 ∷ []) (2 ∷ []) (4 ∷ []) 1 1 2 ∷
+    -- shares 2 and 3
+    met (2 ∷ 4 ∷ []) (1 ∷ []) [] 2 0 1 ∷
+    met (2 ∷ 4 ∷ []) (1 ∷ []) [] 2 1 1 ∷
+    -- no share
+    met [] (1 ∷ 2 ∷ 4 ∷ []) [] 0 0 4 ∷
+    met [] (1 ∷ 2 ∷ 4 ∷ []) [] 0 1 4 ∷
+    -- every share: how often tells the secrets apart
+    met (1 ∷ 2 ∷ 4 ∷ []) [] [] 0 0 1 ∷
+    met (1 ∷ 2 ∷ 4 ∷ []) [] [] 0 1 0 ∷
     []
 
 -- ---- running

@@ -10,7 +10,7 @@ use Rattle.finite.specs.Faults.{firstFault}
 use Rattle.anf.specs.Tables.{entry}
 use Rattle.design.specs.Design.{Stage, Design, stageOf}
 use Rattle.design.specs.Reading.{Reading, refused, means, meaning, reading}
-use Rattle.threshold.specs.Stages.{correct, readsOwn, nonComplete, uniform}
+use Rattle.threshold.specs.Stages.{correct, dependsOnAll, nonComplete, uniform}
 use Rattle.threshold.specs.Chain.{chained}
 use Rattle.checker.specs.declared.Verdict.{Verdict}
 
@@ -42,8 +42,8 @@ module _ (d : Design) where
   stageFaults i g =
       -- not correct
       (not (correct (d .m) (d .s) g), answer 12 i 0) ∷
-      -- not non-complete, with the lowest such component
-      (not (nonComplete (d .m) (d .s) g), answer 13 i (first (d .s) (readsOwn (d .m) (d .s) g) + 1)) ∷
+      -- not non-complete, with the lowest component that depends on every share
+      (not (nonComplete (d .m) (d .s) g), answer 13 i (first (d .s) (dependsOnAll (d .m) (d .s) g) + 1)) ∷
       -- not uniform
       (not (uniform (d .m) (d .s) g), answer 14 i 0) ∷
       []

@@ -16,8 +16,8 @@ ghost use Rattle.design.specs.Reading.{meaning};
 ghost use Rattle.design.specs.inside.Described.{Describes};
 ghost use Rattle.design.specs.inside.StageLists.{listsOf};
 ghost use Rattle.threshold.specs.Sharing.{sum};
-ghost use Rattle.threshold.specs.inside.Variables.{variables};
-ghost use Rattle.threshold.specs.Stages.{output, readsOwn};
+ghost use Rattle.threshold.specs.inside.Variables.{variables, namesEvery};
+ghost use Rattle.threshold.specs.Stages.{output, dependsOnAll};
 ghost use Rattle.checker.specs.inside.Parts.{Standing, stoppedAt, endedAfter, pass, correctnessPass, uniformityPass, stageFrom};
 ghost use Rattle.checker.specs.inside.Marks.{Clear, Cleared};
 
@@ -94,38 +94,54 @@ pub fn try_correctness(file: &[u8], layout: Layout, t: usize) -> Pass
 }
 
 // The variables of share `j`.
-fn own_variables(m: usize, j: usize) -> u32
+fn variables_of(m: usize, j: usize) -> u32
     requires { ⌜ (m ≤ greatestWidth) × (j < greatestShares) ⌝ }
     ensures { λ r. ⌜ r ≡ variables m j ⌝ }
 {
     ((finite::power(m) - 1) as u32) << ((m * j) as u32)
 }
 
-// Whether a term names a variable of the group.
-fn names_one(term: u32, group: u32) -> bool
-    ensures { λ r. ⌜ r ≡ named group term ⌝ }
+// Whether the set has a variable of the group.
+fn names_one(set: u32, group: u32) -> bool
+    ensures { λ r. ⌜ r ≡ named group set ⌝ }
 {
-    term & group != 0
+    set & group != 0
 }
 
-// The lowest component of stage `t` that depends on its own share; their number where there is none.
+// Whether the set has a variable of every share.
+fn names_every(set: u32, m: usize, s: usize) -> bool
+    requires { ⌜ (m ≤ greatestWidth) × (s ≤ greatestShares) ⌝ }
+    ensures { λ r. ⌜ r ≡ namesEvery m s set ⌝ }
+{
+    let mut e: usize = 0;
+    while e < s {
+        if !names_one(set, variables_of(m, e)) {
+            return false;
+        }
+        e += 1;
+    }
+    true
+}
+
+// The lowest component of stage `t` that depends on every share; their number where there is none. The variables that a component's terms name are gathered in a set.
 pub fn offending(file: &[u8], layout: Layout, t: usize) -> usize
     requires { ⌜ Describes (now file) layout × (t < layout .head .k) ⌝ }
-    ensures { λ r. ⌜ r ≡ first (layout .head .s) (readsOwn (layout .head .m) (layout .head .s) (stageOf (meaning (now (file .entry))) t)) ⌝ }
+    ensures { λ r. ⌜ r ≡ first (layout .head .s) (dependsOnAll (layout .head .m) (layout .head .s) (stageOf (meaning (now (file .entry))) t)) ⌝ }
 {
     let m = layout.head.m;
     let s = layout.head.s;
     let mut found = s;
     let mut j: usize = 0;
     'components: while j < s {
-        let own = own_variables(m, j);
+        let mut named: u32 = 0;
         let mut b: usize = 0;
         while b < m {
             let list = design::list(file, layout, t, m * j + b);
             let n = records::count(list);
             let mut i: usize = 0;
             while i < n {
-                if names_one(records::term(list, i), own) {
+                named = named | records::term(list, i);
+                if names_every(named, m, s) {
                     found = j;
                     break 'components;
                 }

@@ -30,7 +30,8 @@ module _ (m s : ℕ) (t : List ℕ) (some : 1 ≤ s) where
       at (yes l) = l
       at (no n) =
           absurd (degree-bound m s (entry t) (λ j xs. F .F j (packed m s xs)) some
-          (λ j l xs p v k. ap (F .F j) (packed-set m s xs (p .size) (p .below) j v l k) ∙ F .nonComplete j l (packed m s xs) (small xs p) v k)
+          (λ j l. let w = F .nonComplete j l in
+          (w .0, w .1, λ xs p v k. ap (F .F j) (packed-set m s xs (p .size) (p .below) (w .0) v (w .1) k) ∙ w .2 (packed m s xs) (small xs p) v k))
           (λ xs p. F .correct (packed m s xs) (small xs p)
           ∙ ap (entry t) (sum-shares m s (packed m s xs) ∙ xorBelow-ext s _ _ (share-packed m s xs (p .below))))
           (omega arith))

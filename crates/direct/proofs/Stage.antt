@@ -1,5 +1,5 @@
--- The direct stage of a box of degree below s is correct and non-complete. Each product of each term goes to exactly one component, so the
--- components sum to the expansion of the box's terms; and a product goes to a component whose share it does not name.
+-- The direct stage of a box of degree below s is correct and non-complete, component c ignoring share c. Each product of each term goes to exactly
+-- one component, so the components sum to the expansion of the box's terms; and a product goes to a component whose share it does not name.
 use mathlib.Core.Path.{_≡_, refl, sym, ap, ap₂, _∙_}
 use mathlib.Core.Logic.{_⊎_, inl, inr}
 use mathlib.Core.Bool.{Bool, true, false, _&&_}
@@ -26,7 +26,7 @@ use Rattle.anf.proofs.Degree.{degree-at}
 use Rattle.design.specs.Design.{TableFits}
 use Rattle.threshold.specs.Sharing.{share, sum, withShare}
 use Rattle.threshold.specs.inside.Variables.{variables}
-use Rattle.threshold.specs.Stages.{output, component, Correct, NonComplete}
+use Rattle.threshold.specs.Stages.{output, component, Correct, Ignores, NonComplete}
 use Rattle.threshold.proofs.Sharing.{place-lt, share-lt, sum-lt, with-own, setting-with, share-bit, place-div, place-mod}
 use Rattle.threshold.proofs.Output.{output-bit, component-eq}
 use Rattle.threshold.proofs.Dependence.{clear-variables, setting-clear}
@@ -160,8 +160,8 @@ stands-outside m s f c b p l e =
     (component-outside s (chosen m s p) c l
     (eqb-true _ _ (and-right (any (2 ^ m) (λ u. isProduct m s u p && has (f u) b)) (eqb (componentFor s (chosen m s p)) c) e)))
 
-pub direct-non-complete : (m s : ℕ) (t : List ℕ) → NonComplete m s (component m (directStage m s t .lists))
-direct-non-complete m s t c l σ lσ v lv =
+pub direct-ignores : (m s : ℕ) (t : List ℕ) (c : ℕ) → c < s → Ignores m s c (component m (directStage m s t .lists) c)
+direct-ignores m s t c l σ lσ v lv =
     component-eq (withShare m c v σ) σ m c (directStage m s t .lists)
     (λ b lb. ap (λ (x : List ℕ). valueAt x (withShare m c v σ)) (at b lb) ∙ same b ∙ ap (λ (x : List ℕ). valueAt x σ) (sym (at b lb)))
   where
@@ -177,3 +177,6 @@ direct-non-complete m s t c l σ lσ v lv =
         list-value m s (subsetSum m (entry t)) c b (withShare m c v σ)
         ∙ xorBelow-ext (2 ^ (m * s)) _ _ (λ p k. term b p (stands m s (subsetSum m (entry t)) c b p) refl)
         ∙ sym (list-value m s (subsetSum m (entry t)) c b σ)
+
+pub direct-non-complete : (m s : ℕ) (t : List ℕ) → NonComplete m s (component m (directStage m s t .lists))
+direct-non-complete m s t c l = (c, l, direct-ignores m s t c l)

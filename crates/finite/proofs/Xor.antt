@@ -1,10 +1,10 @@
--- Xor and and of numbers form a Boolean ring. Each law holds of the halves and, by cases, of the lowest bits.
+-- Xor and and of numbers form a Boolean ring; and distributes over or too. Each law holds of the halves and, by cases, of the lowest bits.
 use mathlib.Core.Path.{_≡_, refl, sym, ap, ap₂, _∙_}
-use Prim.Native.Nat.{ℕ, zero, suc, _/_, _%_, _^_, _<_, min}
+use Prim.Native.Nat.{ℕ, zero, suc, _/_, _%_, _^_, _<_, min, max}
 use native.Mathlib.Nat.{mod-lt, zero-lt-suc, not-suc-le-zero, le-of-suc-le-suc}
 use native.Mathlib.Omega.{arith}
 use lib.Arith.{bin-ind, digits-div, digits-mod}
-use lib.Bits.{bitAnd, bitXor, differ, xor-step, and-step, xor-comm, and-comm, xor-self, xor-zero-r, xor-shr, xor-mod, and-shr, and-mod}
+use lib.Bits.{bitAnd, bitOr, bitXor, differ, xor-step, and-step, or-step, xor-comm, and-comm, xor-self, xor-zero-r, xor-shr, xor-mod, and-shr, and-mod}
 
 -- case analysis on the lowest bit
 pub bit-cases : (P : ℕ → Type 0) → P 0 → P 1 → (n : ℕ) → P (n % 2)
@@ -34,6 +34,15 @@ and-half a b = rw (and-step a b) (digits-div (bitAnd (a / 2) (b / 2)) (min-lt a 
 
 pub and-odd : (a b : ℕ) → bitAnd a b % 2 ≡ min (a % 2) (b % 2)
 and-odd a b = rw (and-step a b) (digits-mod (bitAnd (a / 2) (b / 2)) (min-lt a b))
+
+max-lt : (a b : ℕ) → max (a % 2) (b % 2) < 2
+max-lt a b = bit-cases (λ x. max x (b % 2) < 2) (omega arith) (omega arith) a
+
+or-half : (a b : ℕ) → bitOr a b / 2 ≡ bitOr (a / 2) (b / 2)
+or-half a b = rw (or-step a b) (digits-div (bitOr (a / 2) (b / 2)) (max-lt a b))
+
+or-odd : (a b : ℕ) → bitOr a b % 2 ≡ max (a % 2) (b % 2)
+or-odd a b = rw (or-step a b) (digits-mod (bitOr (a / 2) (b / 2)) (max-lt a b))
 
 -- two numbers are equal when their halves and their lowest bits are
 pub digits-eq : (a b : ℕ) → a / 2 ≡ b / 2 → a % 2 ≡ b % 2 → a ≡ b
@@ -67,6 +76,13 @@ and-xor =
     (λ a ih b c. digits-eq (bitAnd a (bitXor b c)) (bitXor (bitAnd a b) (bitAnd a c))
     (simp (and-half, xor-half, ih))
     (simp (and-odd, xor-odd) (cases3 (λ x y z. min x (differ y z) ≡ differ (min x y) (min x z)) refl refl refl refl refl refl refl refl a b c)))
+
+pub and-or : (a b c : ℕ) → bitAnd a (bitOr b c) ≡ bitOr (bitAnd a b) (bitAnd a c)
+and-or =
+    bin-ind (λ a. (b c : ℕ) → bitAnd a (bitOr b c) ≡ bitOr (bitAnd a b) (bitAnd a c)) (λ b c. refl)
+    (λ a ih b c. digits-eq (bitAnd a (bitOr b c)) (bitOr (bitAnd a b) (bitAnd a c))
+    (simp (and-half, or-half, ih))
+    (simp (and-odd, or-odd) (cases3 (λ x y z. min x (max y z) ≡ max (min x y) (min x z)) refl refl refl refl refl refl refl refl a b c)))
 
 pub xor-left-comm : (a b c : ℕ) → bitXor a (bitXor b c) ≡ bitXor b (bitXor a c)
 xor-left-comm a b c = sym (xor-assoc a b c) ∙ ap (λ (x : ℕ). bitXor x c) (xor-comm a b) ∙ xor-assoc b a c

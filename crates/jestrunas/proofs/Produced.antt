@@ -10,7 +10,7 @@ use Rattle.anf.specs.Tables.{entry, Permutation}
 use Rattle.design.specs.Design.{Design}
 use Rattle.design.specs.Reading.{refused, means, reading}
 use Rattle.checker.specs.Verdict.{answer, workspaceFor, verdict}
-use Rattle.checker.specs.Accepted.{ChainIsBox, TablePermutes, CorrectAt, IgnoresOwn, Explained, refusal, fault-8, fault-9, fault-10, fault-11, fault-12, fault-13, fault-14, accepted}
+use Rattle.checker.specs.Accepted.{ChainIsBox, TablePermutes, CorrectAt, IgnoresSomeAt, Explained, refusal, fault-8, fault-9, fault-10, fault-11, fault-12, fault-13, fault-14, accepted}
 use Rattle.checker.specs.declared.Verdict.{Verdict}
 use Rattle.checker.proofs.Exactly.{explained}
 use Rattle.direct.specs.Direct.{directStage, directSharing, Box}
@@ -42,7 +42,7 @@ module _ (m s n : ℕ) (t : List ℕ) (b : Box m s t) (low : degree m (entry t) 
   outcome v (fault-11 e i r c l p h) = absurd (never TablePermutes e i (r .reads) l (λ x y lx ly q. b .injective x y lx ly q) h)
   outcome v (fault-12 e i p l h) = absurd (never CorrectAt e i (p .judgeable .reads) l (sound .correctly) h)
   outcome v (fault-13 e i j p l c k q h) =
-      absurd (never (λ x y. IgnoresOwn x y j) e i (p .judgeable .reads) l (sound .non-completely j (subst (λ (x : Design). j < x .s) (same e (p .judgeable .reads)) k)) h)
+      absurd (never (λ x y. IgnoresSomeAt x y j) e i (p .judgeable .reads) l (sound .non-completely j (subst (λ (x : Design). j < x .s) (same e (p .judgeable .reads)) k)) h)
   outcome v (fault-14 e i p l c o h) = inr (ap (λ (x : ℕ). answer 14 (x + 1) 0) (only e i (p .judgeable .reads) l))
   outcome v (accepted e p) = inl (ap (λ (x : Design). answer 0 (x .k) 0) (same e (p .judgeable .reads)))
 

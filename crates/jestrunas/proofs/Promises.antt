@@ -32,7 +32,8 @@ use Rattle.design.proofs.Limits as limits
 use Rattle.design.proofs.Theorems as design-theorems
 use Rattle.design.proofs.Reasons as reasons
 use Rattle.design.proofs.Bench as design-bench
-use Rattle.threshold.specs.Stages.{output, component, Correct, NonComplete, Uniform, CountedUniform}
+use Rattle.threshold.specs.Stages.{output, component, Correct, Ignores, NonComplete, Uniform, CountedUniform}
+use Rattle.threshold.specs.Chain.{readMeetings}
 use Rattle.threshold.specs.Running.{running}
 use Rattle.threshold.proofs.Stages.{stage-uniform↔counted}
 use Rattle.checker.specs.Verdict.{answer, workspaceFor, verdict}
@@ -49,6 +50,7 @@ use Rattle.producer.specs.Producing.{produced, producedReason, producing, outpu
 use Rattle.producer.specs.Bench as bench-producer
 use Rattle.producer.proofs.Theorems.{produced-sound, success-exactly, sixteen-exactly, output-file, output-rest, output-refused}
 use Rattle.direct.proofs.Shareable as shareable
+use Rattle.direct.proofs.Stage as direct-stage
 use Rattle.direct.proofs.Counts.{products-count}
 use Rattle.producer.proofs.Room as producer-room
 use Rattle.direct.proofs.Bench as direct-bench
@@ -75,8 +77,8 @@ unique-lists = unique-terms
 pub dependence : (n group : ℕ) (l : List ℕ) → TermList n l → (names group l ≡ true) ↔ Depends n group (valueAt l)
 dependence = names-exactly
 
--- 4. Degree. Where the coefficient at a set of s or more variables is not zero, no s functions, the j-th independent of share j, sum to the table.
-pub degree-limit : (n s : ℕ) (f : ℕ → ℕ) (F : ℕ → List ℕ → ℕ) → 1 ≤ s → ((j : ℕ) → j < s → IgnoresPoint n s j (F j))
+-- 4. Degree. Where the coefficient at a set of s or more variables is not zero, no s functions, each independent of at least one share, sum to the table.
+pub degree-limit : (n s : ℕ) (f : ℕ → ℕ) (F : ℕ → List ℕ → ℕ) → 1 ≤ s → ((j : ℕ) → j < s → (e : ℕ) × (e < s) × IgnoresPoint n s e (F j))
     → ((xs : List ℕ) → Points n s xs → xorBelow s (λ j. F j xs) ≡ f (xorBelow s (λ j. getD xs j 0)))
     → (u : ℕ) → u < 2 ^ n → s ≤ ones u → subsetSum n f u ≢ 0 → ⊥
 degree-limit = shares-bound
@@ -120,12 +122,13 @@ accepted-exactly = exactly.accepted-exactly
 pub explained : (f : List ℕ) (n : ℕ) → Explained f n (verdict f n)
 explained = exactly.explained
 
--- 8. Assurance. From reason 0 alone: every meeting of every setting is exactly 1, for every secret, stage and component, and running the same bytes on any
--- sharing of a secret answers 0 and output shares that sum to S of the secret.
+-- 8. Assurance. From reason 0 alone: every component ignores at least one share; whichever share is left out, every setting of the other s - 1 is met exactly
+-- once, for every secret and stage; what a component reads is met equally often for all secrets; and running the same bytes on any sharing of a secret answers
+-- 0 and output shares that sum to S of the secret.
 pub assurance : (f : List ℕ) (n : ℕ) → verdict f n .reason ≡ 0 → (d : Design) × Assured f d
 assurance = assured.assurance
 
--- So no test of what a component may read, and no value that it gives, tells one secret from another.
+-- So no test of a setting of s - 1 shares, and no value that a component gives, tells one secret from another.
 pub blind : (f : List ℕ) (n : ℕ) → verdict f n .reason ≡ 0 → (d : Design) × Assured f d × Blind d
 blind = assured.blind
 
@@ -191,6 +194,10 @@ pub produced-reads : (m s : ℕ) (t : List ℕ) → Box m s t → degree m (entr
     × NonComplete m s (component m (directStage m s t .lists))
 produced-reads m s t b low = let p = produced-sound m s t b low in (p .reads, p .correctly, p .non-completely)
 
+-- It is so in the usual, stricter sense: component c ignores share c.
+pub produced-usual : (m s : ℕ) (t : List ℕ) (c : ℕ) → c < s → Ignores m s c (component m (directStage m s t .lists) c)
+produced-usual = direct-stage.direct-ignores
+
 -- So with enough workspace its verdict is 0 or 14.
 pub produced-judged : (m s n : ℕ) (t : List ℕ) → Box m s t → degree m (entry t) < s → workspaceFor m s ≤ n
     → (verdict (produced m s t) n ≡ answer 0 1 0) ⊎ (verdict (produced m s t) n ≡ answer 14 1 0)
@@ -230,7 +237,7 @@ most-met = producer-room.most-met
 pub output-enough : (m s : ℕ) (t : List ℕ) (room : ℕ) → 20867 ≤ room → producedReason m s t room ≢ 17
 output-enough = producer-room.room-enough
 
--- ---- 10. Bench. Every starred design of the papers answers as it must.
+-- ---- 10. Bench. Every starred design of the papers answers as it must; and what a component reads is met as often as rows say.
 
 pub record Bench : Type 0 where
   pub passages : bench-anf.AllPass bench-anf.rows
@@ -239,6 +246,7 @@ pub record Bench : Type 0 where
   pub readings : map (λ r. reading (r .file)) bench-design.rows ≡ map (λ r. r .answer) bench-design.rows
   pub verdicts : map (λ r. judging (r .file) (r .workspace)) bench-checker.rows ≡ map (λ r. r .answer) bench-checker.rows
   pub forecasts : map (λ r. forecast (r .file)) bench-checker.forecasts ≡ map (λ r. r .answer) bench-checker.forecasts
+  pub meetings : map (λ r. readMeetings 1 3 (r .stages) (r .secret) 0 0 (r .sharing)) bench-checker.meetingRows ≡ map (λ r. r .times) bench-checker.meetingRows
   pub runs : map (λ r. running (r .file) (r .shares)) bench-checker.runs ≡ map (λ r. r .answer) bench-checker.runs
   pub productions : map (λ r. producing (r .m) (r .s) (r .table) (length (r .output))) bench-producer.rows ≡ map (λ r. r .answer) bench-producer.rows
   pub lists : directStage 1 3 (1 ∷ 0 ∷ []) .lists ≡ (0 ∷ 2 ∷ []) ∷ (4 ∷ []) ∷ (1 ∷ []) ∷ []
@@ -252,6 +260,7 @@ bench = record {
   readings = design-bench.bench;
   verdicts = checker-bench.bench-verdicts;
   forecasts = checker-bench.bench-forecasts;
+  meetings = checker-bench.bench-meetings;
   runs = checker-bench.bench-runs;
   productions = producer-bench.bench-answers;
   lists = direct-bench.bench-lists;

@@ -48,10 +48,7 @@ pub fn print_reason(fd: i32, reason: usize) {
         io::write_all(fd, b"not correct: the components do not sum to G");
     }
     if reason == 13 {
-        io::write_all(
-            fd,
-            b"not non-complete: a component depends on its own share",
-        );
+        io::write_all(fd, b"not non-complete: a component depends on every share");
     }
     if reason == 14 {
         io::write_all(

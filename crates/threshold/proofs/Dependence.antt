@@ -1,4 +1,4 @@
--- Component j depends on share j exactly when one of its lists names a variable of share j: to clear those variables is to put 0 for share j,
+-- Component j depends on share e exactly when one of its lists names a variable of share e: to clear those variables is to put 0 for share e,
 -- and the function of a rising list depends on a group of variables exactly when a term names one. Assumes nothing.
 use mathlib.Core.Path.{_≡_, sym, ap, _∙_}
 use mathlib.Core.Logic.{⊎-elim}
@@ -17,10 +17,10 @@ use Rattle.anf.proofs.Terms.{clear-add, independent, names-depends}
 use Rattle.design.specs.Design.{Stage}
 use Rattle.threshold.specs.Sharing.{share, setting, putShare, withShare}
 use Rattle.threshold.specs.inside.Variables.{variables}
-use Rattle.threshold.specs.Stages.{component, readsOwn}
+use Rattle.threshold.specs.Stages.{component, dependsOn}
 use Rattle.threshold.proofs.Sharing.{place-lt, share-lt, put-share-setting, setting-with, with-other}
 use Rattle.threshold.proofs.Output.{component-eq, component-bit}
-use Rattle.threshold.proofs.Tests.{reads-some, reads-at}
+use Rattle.threshold.proofs.Tests.{depends-some, depends-at}
 
 module _ (w j : ℕ) where
   -- of x, the variables of share j hold share j
@@ -43,26 +43,27 @@ module _ (w j : ℕ) where
   pub setting-clear : (x y : ℕ) → setting w j x ≡ setting w j y → clear x (variables w j) ≡ clear y (variables w j)
   setting-clear x y e = clear-variables x ∙ ap (putShare w j 0) e ∙ sym (clear-variables y)
 
-pub reads-names : (w s : ℕ) (g : Stage) (j : ℕ) → j < s → ((l : ℕ) → l < w * s → TermList (w * s) (getD (g .lists) l []))
-    → readsOwn w s g j ≡ any w (λ b. names (variables w j) (getD (g .lists) (w * j + b) []))
-reads-names w s g j hj fits = bool-ext (readsOwn w s g j) (any w named) to from
-  where
-    named : ℕ → Bool
-    named b = names (variables w j) (getD (g .lists) (w * j + b) [])
+module _ (w s : ℕ) (g : Stage) (j e : ℕ) (hj : j < s) (fits : (l : ℕ) → l < w * s → TermList (w * s) (getD (g .lists) l [])) where
+  -- list b of component j names a variable of share e
+  abbrev namesIt : ℕ → Bool
+  namesIt b = names (variables w e) (getD (g .lists) (w * j + b) [])
 
-    to : readsOwn w s g j ≡ true → any w named ≡ true
-    to e =
-        let r = reads-some w s g j e in
-        ⊎-elim (λ t. t)
-        (λ f. absurd (r .4 (component-eq (withShare w j (r .2) (r .0)) (r .0) w j (g .lists)
-        (λ b l. independent (variables w j) (getD (g .lists) (w * j + b) []) (any-none w named f b l) (withShare w j (r .2) (r .0)) (r .0)
-        (setting-clear w j (withShare w j (r .2) (r .0)) (r .0) (setting-with w j (r .2) (r .0) (r .3)))))))
-        (true-or-false (any w named))
+  pub depends-listed : dependsOn w s g j e ≡ any w (λ b. names (variables w e) (getD (g .lists) (w * j + b) []))
+  depends-listed = bool-ext (dependsOn w s g j e) (any w namesIt) to from
+    where
+      to : dependsOn w s g j e ≡ true → any w namesIt ≡ true
+      to t =
+          let r = depends-some w s g j e t in
+          ⊎-elim (λ y. y)
+          (λ f. absurd (r .4 (component-eq (withShare w e (r .2) (r .0)) (r .0) w j (g .lists)
+          (λ b l. independent (variables w e) (getD (g .lists) (w * j + b) []) (any-none w namesIt f b l) (withShare w e (r .2) (r .0)) (r .0)
+          (setting-clear w e (withShare w e (r .2) (r .0)) (r .0) (setting-with w e (r .2) (r .0) (r .3)))))))
+          (true-or-false (any w namesIt))
 
-    from : any w named ≡ true → readsOwn w s g j ≡ true
-    from e =
-        let b = any-some w named e in
-        let d = names-depends (w * s) (variables w j) (getD (g .lists) (w * j + b .0) []) (fits (w * j + b .0) (place-lt w s j (b .0) hj (b .1))) (b .2) in
-        let same = with-other w j (d .x) (d .y) (clear-setting w j (d .x) (d .y) (d .alone)) in
-        reads-at w s g j (d .x) (d .x-below) (share w j (d .y)) (share-lt w j (d .y))
-        (λ e. d .changes (component-bit (d .x) (d .y) w j (g .lists) (sym e ∙ ap (component w (g .lists) j) same) (b .0) (b .1)))
+      from : any w namesIt ≡ true → dependsOn w s g j e ≡ true
+      from t =
+          let b = any-some w namesIt t in
+          let d = names-depends (w * s) (variables w e) (getD (g .lists) (w * j + b .0) []) (fits (w * j + b .0) (place-lt w s j (b .0) hj (b .1))) (b .2) in
+          let same = with-other w e (d .x) (d .y) (clear-setting w e (d .x) (d .y) (d .alone)) in
+          depends-at w s g j e (d .x) (d .x-below) (share w e (d .y)) (share-lt w e (d .y))
+          (λ q. d .changes (component-bit (d .x) (d .y) w j (g .lists) (sym q ∙ ap (component w (g .lists) j) same) (b .0) (b .1)))

@@ -1,4 +1,4 @@
--- A sharing is its share j and its setting of component j, and its sum is the xor of that share and the sum of the setting.
+-- A sharing is its share j and its setting without share j, and its sum is the xor of that share and the sum of the setting.
 -- Shares stand at the places of powers of 2; only the sum over the shares needs induction. Assumes nothing.
 use mathlib.Core.Path.{_≡_, refl, sym, ap, ap₂, _∙_, subst}
 use mathlib.Core.Logic.{_≢_}

@@ -1,19 +1,18 @@
 -- Component functions that are correct for a permutation carry sharings; they are uniform exactly when no output sharing is met twice, and exactly when
--- they have the count in document 003. Non-complete: what component j gives is a function of its setting. Assumes nothing.
-use mathlib.Core.Path.{_≡_, refl, sym, _∙_, subst}
+-- they have the count in document 003. Assumes nothing.
+use mathlib.Core.Path.{_≡_, refl, _∙_, subst}
 use mathlib.Core.Logic.{_↔_}
 use mathlib.Core.Bool.{Bool, true, false, not}
 use mathlib.Core.List.{List}
 use Prim.Native.Nat.{ℕ, _*_, _^_, _<_}
 use lib.ListN.{length}
-use lib.Pow.{pow-pos}
 use Rattle.finite.specs.Maps.{Injective, repeats}
 use Rattle.finite.proofs.Testing.{not-true-false}
 use Rattle.finite.proofs.Maps.{repeats-clash, repeats→injective}
 use Rattle.anf.specs.Tables.{entry, Permutation}
 use Rattle.design.specs.Design.{Stage, StageFits, TableFits}
-use Rattle.threshold.specs.Sharing.{share, sum, setting, putShare}
-use Rattle.threshold.specs.Stages.{output, component, Correct, Ignores, Uniform, CountedUniform, uniform}
+use Rattle.threshold.specs.Sharing.{share, sum}
+use Rattle.threshold.specs.Stages.{output, component, Correct, Uniform, CountedUniform, uniform}
 use Rattle.threshold.proofs.Sharing.{sum-lt, sum-shares}
 use Rattle.threshold.proofs.Output.{output-lt}
 use Rattle.threshold.proofs.Carried.{Carries, even→injective, injective→even, even→counted, counted→even}
@@ -76,8 +75,3 @@ module _ (w s : ℕ) (g : Stage) (fits : StageFits w s g) (perm : Permutation w 
       go : (b : Bool) → repeats (2 ^ (w * s)) (output (g .lists)) ≡ b → uniform w s g ≡ not b
       go true e = not-true-false _ (λ u. repeats-clash (2 ^ (w * s)) (output (g .lists)) e (stage-uniform→injective (uniform↔ w s g .0 u)))
       go false e = uniform↔ w s g .1 (stage-injective→uniform (repeats→injective (2 ^ (w * s)) (output (g .lists)) e))
-
--- ---- a function that does not depend on share j is a function of the setting
-
-pub of-setting : (w s j : ℕ) (f : ℕ → ℕ) → Ignores w s j f → (σ : ℕ) → σ < 2 ^ (w * s) → f σ ≡ f (putShare w j 0 (setting w j σ))
-of-setting w s j f h σ l = sym (h σ l 0 (pow-pos w))

@@ -1,18 +1,19 @@
 -- Each test of a stage means its proposition: the test passes exactly when the proposition holds. A test that fails has a place where it does.
 -- Assumes nothing.
-use mathlib.Core.Path.{_≡_, refl, sym, ap, _∙_}
+use mathlib.Core.Path.{_≡_, sym, ap, _∙_}
 use mathlib.Core.Logic.{_↔_, _≢_}
-use mathlib.Core.Bool.{Bool, true, false, _&&_, not}
+use mathlib.Core.Bool.{true, false, _&&_, not, Bool·not-not}
 use mathlib.Core.List.{List}
 use Prim.Native.Nat.{ℕ, _*_, _^_, _<_}
 use lib.Dec.{eqb}
 use borrow.Author.Tests.{eqb-true, eqb-false, eq-eqb, ne-eqb, not-true, not-false}
 use Rattle.finite.specs.Tests.{any}
-use Rattle.finite.proofs.Testing.{all-at, all-intro, any-at, any-some, any-none, none-any, implies-at, implies-intro, and-intro, and-left, and-right}
+use Rattle.finite.proofs.Testing.{all-at, all-intro, all-fails, all-not, any-at, any-some, any-none, none-any, implies-at, implies-intro, and-intro, and-left, and-right}
 use Rattle.anf.specs.Tables.{entry}
 use Rattle.design.specs.Design.{Stage}
 use Rattle.threshold.specs.Sharing.{sum, withShare}
-use Rattle.threshold.specs.Stages.{output, component, Correct, Ignores, NonComplete, Uniform, correct, readsOwn, nonComplete, sharingsTo, uniform}
+use Rattle.threshold.specs.Stages.{output, component, Correct, Ignores, IgnoresSome, NonComplete, Uniform}
+use Rattle.threshold.specs.Stages.{correct, dependsOn, dependsOnAll, nonComplete, sharingsTo, uniform}
 use Rattle.threshold.proofs.Sharing.{sum-shares}
 use Rattle.threshold.proofs.Carried.{Even, count→exactly, exactly→count}
 
@@ -55,42 +56,46 @@ module _ (w s : ℕ) (g : Stage) where
 
   -- ---- non-complete
 
-  -- the change of a share that the test found
-  pub reads-some : (j : ℕ) → readsOwn w s g j ≡ true
-      → (σ : ℕ) × (σ < 2 ^ (w * s)) × (v : ℕ) × (v < 2 ^ w) × (component w (g .lists) j (withShare w j v σ) ≢ component w (g .lists) j σ)
-  unfolding readsOwn
-  reads-some j e =
-      let a = any-some (2 ^ (w * s)) _ e in
-      let b = any-some (2 ^ w) _ (a .2) in
-      (a .0, a .1, b .0, b .1, eqb-false _ _ (not-true _ (b .2)))
+  module _ (j e : ℕ) where
+    -- the change of a share that the test found
+    pub depends-some : dependsOn w s g j e ≡ true
+        → (σ : ℕ) × (σ < 2 ^ (w * s)) × (v : ℕ) × (v < 2 ^ w) × (component w (g .lists) j (withShare w e v σ) ≢ component w (g .lists) j σ)
+    unfolding dependsOn
+    depends-some t =
+        let a = any-some (2 ^ (w * s)) _ t in
+        let b = any-some (2 ^ w) _ (a .2) in
+        (a .0, a .1, b .0, b .1, eqb-false _ _ (not-true _ (b .2)))
 
-  pub reads-at : (j : ℕ) → (σ : ℕ) → σ < 2 ^ (w * s) → (v : ℕ) → v < 2 ^ w → component w (g .lists) j (withShare w j v σ) ≢ component w (g .lists) j σ
-      → readsOwn w s g j ≡ true
-  unfolding readsOwn
-  reads-at j σ l v lv ne = any-at (2 ^ (w * s)) _ σ l (any-at (2 ^ w) _ v lv (ap not (ne-eqb _ _ ne)))
+    pub depends-at : (σ : ℕ) → σ < 2 ^ (w * s) → (v : ℕ) → v < 2 ^ w → component w (g .lists) j (withShare w e v σ) ≢ component w (g .lists) j σ
+        → dependsOn w s g j e ≡ true
+    unfolding dependsOn
+    depends-at σ l v lv ne = any-at (2 ^ (w * s)) _ σ l (any-at (2 ^ w) _ v lv (ap not (ne-eqb _ _ ne)))
 
-  pub ignores↔ : (j : ℕ) → readsOwn w s g j ≡ false ↔ Ignores w s j (component w (g .lists) j)
-  unfolding readsOwn
-  ignores↔ j = (
-    λ e σ l v lv. eqb-true _ _ (not-false _ (any-none (2 ^ w) _ (any-none (2 ^ (w * s)) _ e σ l) v lv)),
-    λ h. none-any (2 ^ (w * s)) _ (λ σ l. none-any (2 ^ w) _ (λ v lv. ap not (eq-eqb _ _ (h σ l v lv)))),
+    pub ignores↔ : dependsOn w s g j e ≡ false ↔ Ignores w s e (component w (g .lists) j)
+    unfolding dependsOn
+    ignores↔ = (
+      λ t σ l v lv. eqb-true _ _ (not-false _ (any-none (2 ^ w) _ (any-none (2 ^ (w * s)) _ t σ l) v lv)),
+      λ h. none-any (2 ^ (w * s)) _ (λ σ l. none-any (2 ^ w) _ (λ v lv. ap not (eq-eqb _ _ (h σ l v lv)))),
+    )
+
+  pub ignoresSome↔ : (j : ℕ) → dependsOnAll w s g j ≡ false ↔ IgnoresSome w s (component w (g .lists) j)
+  unfolding dependsOnAll
+  ignoresSome↔ j = (
+    λ t. let r = all-not s (dependsOn w s g j) t in (r .0, r .1, ignores↔ j (r .0) .0 (r .3)),
+    λ h. all-fails s (dependsOn w s g j) (h .0) (h .1) (ignores↔ j (h .0) .1 (h .2)),
   )
 
   pub nonComplete↔ : nonComplete w s g ≡ true ↔ NonComplete w s (component w (g .lists))
   unfolding nonComplete
   nonComplete↔ = (
-    λ e j l. ignores↔ j .0 (any-none s (readsOwn w s g) (not-true _ e) j l),
-    λ h. ap not (none-any s (readsOwn w s g) (λ j l. ignores↔ j .1 (h j l))),
+    λ t j l. ignoresSome↔ j .0 (any-none s (dependsOnAll w s g) (not-true _ t) j l),
+    λ h. ap not (none-any s (dependsOnAll w s g) (λ j l. ignoresSome↔ j .1 (h j l))),
   )
 
-  -- it fails where some component depends on its own share
-  pub not-nonComplete : not (nonComplete w s g) ≡ any s (readsOwn w s g)
+  -- it fails where some component depends on every share
+  pub not-nonComplete : not (nonComplete w s g) ≡ any s (dependsOnAll w s g)
   unfolding nonComplete
-  not-nonComplete = go (any s (readsOwn w s g))
-    where
-      go : (b : Bool) → not (not b) ≡ b
-      go true = refl
-      go false = refl
+  not-nonComplete = Bool·not-not (any s (dependsOnAll w s g))
 
   -- ---- uniform
 

@@ -11,11 +11,11 @@ share w j σ = σ / 2 ^ (w * j) % 2 ^ w
 unfoldable pub sum : ℕ → ℕ → ℕ → ℕ
 sum w s σ = xorBelow s (λ j. share w j σ)
 
--- The setting of component j: the shares that it may read, all but share j. Share j is taken out, and those above it move down.
+-- The setting without share j: the values of all the others. Share j is taken out, and those above it move down.
 unfoldable pub setting : ℕ → ℕ → ℕ → ℕ
 setting w j σ = σ / 2 ^ (w * j) / 2 ^ w * 2 ^ (w * j) + σ % 2 ^ (w * j)
 
--- the sharing with this setting of component j and with v for share j
+-- the sharing with this setting of the others and with v for share j
 unfoldable pub putShare : ℕ → ℕ → ℕ → ℕ → ℕ
 putShare w j v q = (q / 2 ^ (w * j) * 2 ^ w + v) * 2 ^ (w * j) + q % 2 ^ (w * j)
 

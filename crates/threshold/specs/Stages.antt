@@ -1,4 +1,5 @@
--- A stage as functions: its components, and what correct, non-complete and uniform mean of them (the paper's "Terms of threshold implementation").
+-- A stage as functions: its components, and what correct, non-complete and uniform mean of them (the paper's "Terms of threshold implementation";
+-- non-complete by "Linear layers that keep their shares").
 use Prim.Native.Nat.{ℕ, _+_, _*_, _^_, _<_}
 use mathlib.Core.Path.{_≡_}
 use mathlib.Core.Bool.{Bool, _&&_, not}
@@ -26,13 +27,17 @@ component w ls j σ = share w j (output ls σ)
 abbrev pub Correct : ℕ → ℕ → (ℕ → ℕ → ℕ) → List ℕ → Type 0
 Correct w s F g = (σ : ℕ) → σ < 2 ^ (w * s) → xorBelow s (λ j. F j σ) ≡ entry g (sum w s σ)
 
--- a function of a sharing does not depend on share j: no change of that share alone changes it
+-- a function of a sharing ignores share e, that is, does not depend on it: no change of that share alone changes the function's value
 abbrev pub Ignores : ℕ → ℕ → ℕ → (ℕ → ℕ) → Type 0
-Ignores w s j f = (σ : ℕ) → σ < 2 ^ (w * s) → (v : ℕ) → v < 2 ^ w → f (withShare w j v σ) ≡ f σ
+Ignores w s e f = (σ : ℕ) → σ < 2 ^ (w * s) → (v : ℕ) → v < 2 ^ w → f (withShare w e v σ) ≡ f σ
 
--- non-complete: component j does not depend on share j
+-- it ignores at least one share
+abbrev pub IgnoresSome : ℕ → ℕ → (ℕ → ℕ) → Type 0
+IgnoresSome w s f = (e : ℕ) × (e < s) × Ignores w s e f
+
+-- non-complete: each component ignores at least one share, any one, the same for all its bits
 abbrev pub NonComplete : ℕ → ℕ → (ℕ → ℕ → ℕ) → Type 0
-NonComplete w s F = (j : ℕ) → j < s → Ignores w s j (F j)
+NonComplete w s F = (j : ℕ) → j < s → IgnoresSome w s (F j)
 
 -- exactly one number below n has the property
 pub record ExactlyOne (n : ℕ) (P : ℕ → Type 0) : Type 0 where
@@ -61,13 +66,17 @@ sumsRight w s ls g σ = eqb (sum w s (output ls σ)) (entry g (sum w s σ))
 unfoldable pub correct : ℕ → ℕ → Stage → Bool
 correct w s g = all (2 ^ (w * s)) (sumsRight w s (g .lists) (g .table))
 
--- component j depends on share j
-unfoldable pub readsOwn : ℕ → ℕ → Stage → ℕ → Bool
-readsOwn w s g j =
-    any (2 ^ (w * s)) (λ σ. any (2 ^ w) (λ v. not (eqb (component w (g .lists) j (withShare w j v σ)) (component w (g .lists) j σ))))
+-- component j depends on share e
+unfoldable pub dependsOn : ℕ → ℕ → Stage → ℕ → ℕ → Bool
+dependsOn w s g j e =
+    any (2 ^ (w * s)) (λ σ. any (2 ^ w) (λ v. not (eqb (component w (g .lists) j (withShare w e v σ)) (component w (g .lists) j σ))))
+
+-- component j depends on every share
+unfoldable pub dependsOnAll : ℕ → ℕ → Stage → ℕ → Bool
+dependsOnAll w s g j = all s (dependsOn w s g j)
 
 unfoldable pub nonComplete : ℕ → ℕ → Stage → Bool
-nonComplete w s g = not (any s (readsOwn w s g))
+nonComplete w s g = not (any s (dependsOnAll w s g))
 
 -- how many sharings of x give the output sharing τ
 unfoldable pub sharingsTo : ℕ → ℕ → Stage → ℕ → ℕ → ℕ

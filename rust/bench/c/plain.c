@@ -121,12 +121,22 @@ static uint32_t sum_of(uint32_t x, size_t m, size_t s) {
     return sum;
 }
 
+static int names_every_share(uint32_t variables, size_t m, size_t s) {
+    uint32_t mask = ((uint32_t)1 << m) - 1;
+    for (size_t e = 0; e < s; e++)
+        if (!(variables >> (e * m) & mask)) return 0;
+    return 1;
+}
+
+/* The lowest component whose terms together name every share; 0 where there is none. */
 static size_t offending(const list *l, size_t m, size_t s) {
     for (size_t j = 0; j < s; j++) {
-        uint32_t own = (((uint32_t)1 << m) - 1) << (j * m);
+        uint32_t named = 0;
         for (size_t b = 0; b < m; b++)
-            for (size_t i = 0; i < l[j * m + b].count; i++)
-                if (u32_at(l[j * m + b].terms + 4 * i) & own) return j + 1;
+            for (size_t i = 0; i < l[j * m + b].count; i++) {
+                named |= u32_at(l[j * m + b].terms + 4 * i);
+                if (names_every_share(named, m, s)) return j + 1;
+            }
     }
     return 0;
 }

@@ -1,5 +1,6 @@
-//! What the comparisons share: numbers from a seed, designs and files made from them, memory to lend.
+//! What the comparisons share: numbers from a seed, designs and files made from them, on which shares a stage depends, memory to lend.
 
+pub mod depend;
 pub mod lent;
 pub mod make;
 pub mod random;

@@ -4,13 +4,16 @@
 //!     compare [FILES [SEED]]
 //!
 //! FILES is the number of generated files, 200,000 unless said. The last lines count what was compared; the exit
-//! status is 1 at a difference (printed with the file and both answers), or where a reason, or a place where trials stop, never occurred.
+//! status is 1 at a difference (printed with the file and both answers), or where a reason, a place where trials stop, or a way in which
+//! components ignore shares (`Ignored`) never occurred.
 
+use compare::depend::{changed_by, shares_read};
 use compare::hex;
 use compare::lent::{self, Lent};
 use compare::make::{self, D, SIZES};
 use compare::random::Random;
 use jestrunas::{native, PRODUCED_MAX, WORKSPACE_MAX};
+use reference::samples::one_bit;
 use reference::{encode, Answer, Design, Shares};
 use std::fmt::Debug;
 use std::time::Instant;
@@ -77,6 +80,49 @@ impl Stops {
     }
 }
 
+/// How the components of designs of up to 12 share bits ignore shares, found by trying them; with more bits that takes too long.
+#[derive(Default)]
+struct Ignored {
+    accepted: usize,
+    /// Accepted, though some component depends on the share of its number: it ignores another one.
+    another: usize,
+    refused: usize,
+    /// Refused with 13, though each bit of the component named ignores a share: not all the same one.
+    bit_by_bit: usize,
+}
+
+impl Ignored {
+    fn add(&mut self, [reason, stage, component, _]: Answer, design: &Design) {
+        let (m, s) = (design.m, design.s);
+        if m * s > 12 {
+            return;
+        }
+        if reason == 0 {
+            let another =
+                design.stages.iter().any(|stage| shares_read(stage, m, s).iter().enumerate().any(|(j, read)| read.contains(&j)));
+            self.accepted += 1;
+            self.another += usize::from(another);
+        }
+        if reason == 13 {
+            let changed = changed_by(&design.stages[stage - 1], m, s);
+            let bit_by_bit = (0..m).all(|bit| changed.iter().any(|bits| bits[component - 1] >> bit & 1 == 0));
+            self.refused += 1;
+            self.bit_by_bit += usize::from(bit_by_bit);
+        }
+    }
+
+    fn say(&self) -> bool {
+        let Ignored { accepted, another, refused, bit_by_bit } = *self;
+        println!("accepted, up to 12 share bits: {accepted} designs, {another} with a component that depends on the share of its number");
+        println!("13, up to 12 share bits: {refused} designs, {bit_by_bit} where each bit of the component ignores a share");
+        let complete = another > 0 && bit_by_bit > 0;
+        if !complete {
+            println!("a way in which components ignore shares never occurred");
+        }
+        complete
+    }
+}
+
 struct Comparison {
     random: Random,
     file: Lent,
@@ -92,6 +138,7 @@ struct Comparison {
     verdicts: Counts,
     correctness: Stops,
     uniformity: Stops,
+    ignored: Ignored,
     runs: Counts,
     produced: Counts,
     passages: Counts,
@@ -114,6 +161,7 @@ impl Comparison {
             verdicts: Counts::default(),
             correctness: Stops::default(),
             uniformity: Stops::default(),
+            ignored: Ignored::default(),
             runs: Counts::default(),
             produced: Counts::default(),
             passages: Counts::default(),
@@ -247,6 +295,7 @@ impl Comparison {
                 if workspace != enough || !holds {
                     self.differs("the forecast holds", file, forecast, full);
                 }
+                self.ignored.add(full, design);
                 let more = enough + self.random.below(3) * self.random.below(40);
                 self.judge(file, full, Some(design), more);
                 if self.random.once_in(4) {
@@ -280,12 +329,26 @@ impl Comparison {
         }
     }
 
-    /// What an accepted design assures, by running it on every sharing of every secret: the last stage's output shares,
-    /// which sum to S of the secret, and every component of every stage meets every setting of the other shares once.
+    /// What an accepted design assures, by running it on every sharing of every secret. The last stage's output shares sum to S of the
+    /// secret. Of every stage, each component ignores a share; whichever share is left out, each setting of the others is met once; and
+    /// each setting of the shares on which a component depends is met as often as for the secret 0.
     fn assured(&mut self, design: &Design, file: &[u8]) {
         let (m, s) = (design.m, design.s);
+        let others: Vec<Vec<usize>> = (0..s).map(|left_out| (0..s).filter(|&share| share != left_out).collect()).collect();
+        let read: Vec<Vec<Vec<usize>>> = design.stages.iter().map(|stage| shares_read(stage, m, s)).collect();
+        if read.iter().flatten().any(|read| read.len() == s) {
+            self.differs("each component of an accepted design ignores a share", file, &read, "");
+        }
+        let none_met = |sets: &[Vec<usize>]| -> Vec<Vec<u32>> { sets.iter().map(|set| vec![0; 1 << (m * set.len())]).collect() };
+        let meet = |met: &mut [Vec<u32>], sets: &[Vec<usize>], shares: &Shares| {
+            for (met, set) in met.iter_mut().zip(sets) {
+                met[set.iter().fold(0, |setting, &share| setting << m | usize::from(shares[share]))] += 1;
+            }
+        };
+        let mut for_secret_0 = None;
         for x in 0..1 << m {
-            let mut meetings = vec![vec![vec![0u32; 1 << (m * (s - 1))]; s]; design.stages.len()];
+            let mut once = vec![none_met(&others); design.stages.len()];
+            let mut equally: Vec<Vec<Vec<u32>>> = read.iter().map(|read| none_met(read)).collect();
             for number in 0..1usize << (m * (s - 1)) {
                 let mut given = [0u8; 5];
                 given[s - 1] = x;
@@ -294,11 +357,9 @@ impl Comparison {
                     given[s - 1] ^= given[j];
                 }
                 let mut shares = given;
-                for (stage, meetings) in design.stages.iter().zip(&mut meetings) {
-                    for (j, met) in meetings.iter_mut().enumerate() {
-                        let others = (0..s).filter(|&other| other != j);
-                        met[others.fold(0, |setting, other| setting << m | usize::from(shares[other]))] += 1;
-                    }
+                for (i, stage) in design.stages.iter().enumerate() {
+                    meet(&mut once[i], &others, &shares);
+                    meet(&mut equally[i], &read[i], &shares);
                     shares = stage.output(&shares);
                 }
                 let run = native::run(self.file.slice(), given);
@@ -308,8 +369,12 @@ impl Comparison {
                 }
                 self.runs.add(0);
             }
-            if meetings.iter().flatten().flatten().any(|&times| times != 1) {
-                self.differs(&format!("an accepted design's meetings for the secret {x}"), file, meetings, "1 each");
+            if once.iter().flatten().flatten().any(|&times| times != 1) {
+                self.differs(&format!("settings of s - 1 shares for the secret {x}"), file, once, "once each");
+            }
+            let due = for_secret_0.get_or_insert_with(|| equally.clone());
+            if equally != *due {
+                self.differs(&format!("settings of the shares that are read for the secret {x}"), file, equally, due.clone());
             }
         }
         self.assured += 1;
@@ -464,6 +529,19 @@ impl Comparison {
         }
     }
 
+    /// Every stage of one bit in three shares whose lists have no products, S and G the identity: its components read any shares.
+    fn affine(&mut self) {
+        let list = |chosen: usize| (0..4).filter(|i| chosen >> i & 1 == 1).map(|i| [0, 1, 2, 4][i]).collect();
+        let lists: Vec<Vec<u32>> = (0..16).map(list).collect();
+        for a in &lists {
+            for b in &lists {
+                for c in &lists {
+                    self.compare_file(&encode(&one_bit([a, b, c])));
+                }
+            }
+        }
+    }
+
     /// Forecasts of heads with every m and s that two bytes can say, alone or with bytes after them.
     fn heads(&mut self) {
         for m in 0..=255 {
@@ -590,9 +668,14 @@ fn main() {
     let mut c = Comparison::new(seed);
     c.edges();
     c.changes();
+    c.affine();
     c.heads();
     c.large();
-    println!("edges, changes, heads and large designs: {} files, {:.1} s", c.files, start.elapsed().as_secs_f64());
+    println!(
+        "edges, changes, affine designs of one bit, heads and large designs: {} files, {:.1} s",
+        c.files,
+        start.elapsed().as_secs_f64()
+    );
     c.generated(files);
 
     let mut complete = true;
@@ -608,8 +691,9 @@ fn main() {
     complete &= c.verdicts.say("judge", &[0, 1, 2, 3, 4, 5, 6, 7, 8, 9, 10, 12, 13, 14]);
     complete &= c.correctness.say("correctness", true);
     // Uniformity cannot stop at the last sharing: one output would be met twice and one never, and all outputs would sum to the sum of
-    // these two; but they sum to zero, since component j ignores share j.
+    // these two; but they sum to zero, since each component ignores a share.
     complete &= c.uniformity.say("uniformity", false);
+    complete &= c.ignored.say();
     complete &= c.runs.say("run", &[0, 1, 2, 3, 4, 5, 6, 7, 15]);
     complete &= c.produced.say("produce", &[0, 3, 4, 5, 8, 16, 17]);
     complete &= c.passages.say("passages", &[0, 3, 4, 5, 17]);

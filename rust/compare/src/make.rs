@@ -1,6 +1,7 @@
 //! Designs, tables and files to compare on.
 
 use crate::random::Random;
+use reference::samples::layer;
 use reference::{direct_sharing, encode, Design, Product, Shares, Stage};
 
 pub const D: [u8; 47] = [
@@ -107,11 +108,12 @@ fn any_lists(random: &mut Random, m: usize, s: usize) -> Vec<Vec<Vec<Product>>> 
     (0..s).map(|_| (0..m).map(&mut list).collect()).collect()
 }
 
-/// Moves products between components so that the sum stays: the stage is as correct as it was.
+/// Moves products between components so that the sum stays: the stage is as correct as it was. With `keep_non_complete` a product has no
+/// factor of the shares of the two components' numbers, so that a direct sharing stays non-complete.
 fn correct(random: &mut Random, stage: &mut Stage, m: usize, s: usize, keep_non_complete: bool) {
     for _ in 0..1 + random.below(3) {
         let (a, b) = (random.below(s), random.below(s));
-        let factors = random.below(4);
+        let factors = random.below(s + 1);
         let mut both = product(random, m, s, factors);
         if keep_non_complete {
             both[a] = 0;
@@ -143,6 +145,28 @@ fn moved(random: &mut Random, stage: &Stage, m: usize, s: usize) -> Stage {
     Stage { table: stage.table.clone(), components }
 }
 
+/// An affine layer in which each component reads one share alone: share j in component j, or in any order.
+fn any_layer(random: &mut Random, m: usize, s: usize) -> Stage {
+    let mut reads: Vec<usize> = (0..s).collect();
+    if random.once_in(2) {
+        random.shuffle(&mut reads);
+    }
+    let table = affine(random, m);
+    layer(m, &table, &reads)
+}
+
+/// Shuffles the lists of each bit among the components, each bit in an order of its own: as correct and as uniform as before, but bits of
+/// one component may then ignore different shares.
+fn shuffle_bits(random: &mut Random, stage: &mut Stage, m: usize) {
+    for bit in 0..m {
+        let mut lists: Vec<Vec<Product>> = stage.components.iter().map(|bits| bits[bit].clone()).collect();
+        random.shuffle(&mut lists);
+        for (bits, list) in stage.components.iter_mut().zip(lists) {
+            bits[bit] = list;
+        }
+    }
+}
+
 /// Changes one list by the term of all variables, which is 1 at the last sharing alone: a correct stage is then wrong there and nowhere
 /// else.
 pub fn wrong_at_last(stage: &mut Stage, m: usize, s: usize, j: usize, bit: usize) {
@@ -161,7 +185,13 @@ pub fn design(random: &mut Random, m: usize, s: usize, k: usize) -> Design {
         } else {
             shareable(random, m, s)
         };
-        let mut stage = if wild { Stage { components: any_lists(random, m, s), table } } else { direct_sharing(m, s, &table) };
+        let mut stage = if wild {
+            Stage { components: any_lists(random, m, s), table }
+        } else if random.once_in(6) {
+            any_layer(random, m, s)
+        } else {
+            direct_sharing(m, s, &table)
+        };
         match random.below(16) {
             0 => correct(random, &mut stage, m, s, false),
             1..=3 => correct(random, &mut stage, m, s, true),
@@ -176,6 +206,8 @@ pub fn design(random: &mut Random, m: usize, s: usize, k: usize) -> Design {
                 let (j, bit) = (random.below(s), random.below(m));
                 wrong_at_last(&mut stage, m, s, j, bit);
             }
+            8 | 9 => random.shuffle(&mut stage.components),
+            10 => shuffle_bits(random, &mut stage, m),
             _ => {}
         }
         stages.push(stage);
@@ -198,11 +230,12 @@ pub fn design(random: &mut Random, m: usize, s: usize, k: usize) -> Design {
     Design { m, s, table, stages }
 }
 
-/// The identity in one stage, component j reading share j + 1.
+/// The identity in each stage: component j reads share j + 1 in the first, share j in the second, and so on in turn.
 pub fn identity(m: usize, s: usize, k: usize) -> Design {
     let table: Vec<u8> = (0..1 << m).collect();
-    let stage = direct_sharing(m, s, &table);
-    Design { m, s, table, stages: vec![stage; k] }
+    let keep: Vec<usize> = (0..s).collect();
+    let stages = [direct_sharing(m, s, &table), layer(m, &table, &keep)].into_iter().cycle().take(k).collect();
+    Design { m, s, table, stages }
 }
 
 /// Where the records of a readable file start, and its end.

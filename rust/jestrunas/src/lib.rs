@@ -50,7 +50,7 @@ pub enum Reason {
     StageRepeats = 11,
     /// A stage is not correct: for some sharing the output shares do not sum to its table's entry.
     NotCorrect = 12,
-    /// A stage is not non-complete: a component depends on the share of its own number.
+    /// A stage is not non-complete: a component depends on every share.
     NotNonComplete = 13,
     /// A stage is not uniform.
     NotUniform = 14,
@@ -113,7 +113,7 @@ impl fmt::Display for Reason {
             Reason::ChainIsNotBox => "the chain of tables is not S",
             Reason::StageRepeats => "the table of a stage repeats an entry",
             Reason::NotCorrect => "a stage is not correct",
-            Reason::NotNonComplete => "a stage is not non-complete",
+            Reason::NotNonComplete => "a stage is not non-complete: a component depends on every share",
             Reason::NotUniform => "a stage is not uniform",
             Reason::BadShare => "a used share is 2^m or more, or an unused one is not 0",
             Reason::DegreeTooHigh => "the degree is the number of shares or more",
@@ -140,7 +140,7 @@ pub struct Refusal {
     pub reason: Reason,
     /// For reasons 1 to 7 a byte of the file, counted from 0; for 11 to 14 the stage, counted from 1; otherwise 0.
     pub place: usize,
-    /// For reason 13 the lowest component that depends on its own share, counted from 1; otherwise 0.
+    /// For reason 13 the lowest component that depends on every share, counted from 1; otherwise 0.
     pub component: usize,
     /// The trials that the verdict took up to the fault: for reasons 1 to 11 none, never more than those of the forecast.
     pub trials: usize,
@@ -161,7 +161,7 @@ impl fmt::Display for Refusal {
             Reason::BytesFollow => write!(f, "bytes follow the end, from byte {place}"),
             Reason::StageRepeats => write!(f, "the table of stage {place} repeats an entry"),
             Reason::NotCorrect => write!(f, "stage {place} is not correct"),
-            Reason::NotNonComplete => write!(f, "component {component} of stage {place} depends on share {component}"),
+            Reason::NotNonComplete => write!(f, "component {component} of stage {place} depends on every share"),
             Reason::NotUniform => write!(f, "stage {place} is not uniform"),
             other => other.fmt(f),
         }
@@ -323,6 +323,13 @@ mod tests {
         let refusal = judge(&file).unwrap_err();
         assert_eq!(refusal, Refusal { reason: Reason::NotUniform, place: 1, component: 0, trials: 650 });
         assert_eq!(refusal.to_string(), "14 1 0: stage 1 is not uniform");
+    }
+
+    #[test]
+    fn a_component_that_depends_on_every_share_is_refused() {
+        let refusal = judge(include_bytes!("../../../designs/leaks.bin")).unwrap_err();
+        assert_eq!(refusal, Refusal { reason: Reason::NotNonComplete, place: 1, component: 2, trials: 512 });
+        assert_eq!(refusal.to_string(), "13 1 2: component 2 of stage 1 depends on every share");
     }
 
     #[test]

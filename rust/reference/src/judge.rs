@@ -61,19 +61,24 @@ fn correct(m: usize, s: usize, outputs: &mut Outputs) -> bool {
     })
 }
 
-/// Some change of share j alone changes the output of component j.
-fn depends_on_own(m: usize, s: usize, j: usize, outputs: &mut Outputs) -> bool {
-    let others: Vec<usize> = (0..s).filter(|&share| share != j).collect();
+/// Component j depends on share e: some change of this share alone changes the component's output.
+fn depends(m: usize, s: usize, j: usize, e: usize, outputs: &mut Outputs) -> bool {
+    let others: Vec<usize> = (0..s).filter(|&share| share != e).collect();
     let ignored = every_choice(m, &others, &mut [0; 5], &mut |setting: &Shares| {
         let mut shares = *setting;
-        shares[j] = 0;
+        shares[e] = 0;
         let first = outputs.at(&shares)[j];
         (1..1 << m).all(|value| {
-            shares[j] = value;
+            shares[e] = value;
             outputs.at(&shares)[j] == first
         })
     });
     !ignored
+}
+
+/// No share is ignored by component j.
+fn depends_on_every_share(m: usize, s: usize, j: usize, outputs: &mut Outputs) -> bool {
+    (0..s).all(|e| depends(m, s, j, e, outputs))
 }
 
 /// For each x, each sharing of G(x) comes from exactly one sharing of x. The stage is known to be correct, so that the
@@ -138,7 +143,7 @@ pub fn verdict(design: &Design, workspace: usize) -> Answer {
         if !held {
             return [12, i + 1, 0, trials];
         }
-        if let Some(j) = (0..s).find(|&j| depends_on_own(m, s, j, &mut outputs)) {
+        if let Some(j) = (0..s).find(|&j| depends_on_every_share(m, s, j, &mut outputs)) {
             return [13, i + 1, j + 1, trials];
         }
         let (tried, held) = uniformity_trials(m, s, &mut outputs);

@@ -1,6 +1,7 @@
 //! Designs that the tests, the sample files and the benchmark share.
 
 use crate::design::{Design, Product, Stage};
+use crate::passage::coefficient;
 use crate::produce::direct_sharing;
 
 /// PRESENT's S-box is F after G, both quadratic (Poschmann, Moradi, Khoo, Lim, Wang and Ling, "Side-channel resistant
@@ -54,7 +55,41 @@ pub fn one_bit(lists: [&[u32]; 3]) -> Design {
     Design { m: 1, s: 3, table: vec![0, 1], stages: vec![Stage { table: vec![0, 1], components: lists.map(list).to_vec() }] }
 }
 
-/// The box 01234576 in three shares with the product of bit 1 and bit 2 of share 2 in component 2 and not in 1.
+/// The identity of two bits in three shares. Bit 0 of component 1 ignores share 3 and bit 1 ignores share 1, so that the component
+/// depends on every share. Component 2 is share 2, and component 3 reads what component 1 reads, in the other bit. Uniform too.
+pub fn bits_apart() -> Design {
+    let lists: [[&[u32]; 2]; 3] = [[&[1, 4], &[8, 32]], [&[4], &[8]], [&[4, 16], &[2, 8]]];
+    let list = |terms: &[u32]| terms.iter().map(|&term| Product::from_number(term, 2, 3).expect("six variables")).collect();
+    let table: Vec<u8> = (0..4).collect();
+    let components = lists.map(|bits| bits.map(list).to_vec()).to_vec();
+    Design { m: 2, s: 3, table: table.clone(), stages: vec![Stage { table, components }] }
+}
+
+/// A stage for an affine table in which each component reads one share alone: component j is what the table's linear part makes of
+/// share reads[j] (both from 0), component 0 with the table's constant.
+pub fn layer(m: usize, table: &[u8], reads: &[usize]) -> Stage {
+    let column = |from: usize| coefficient(table, 1 << from);
+    let list = |share: usize, bit: usize| {
+        (0..m).filter(|&from| column(from) >> bit & 1 == 1).map(|from| Product::of(&variable(share, from))).collect()
+    };
+    let mut components: Vec<Vec<Vec<Product>>> =
+        reads.iter().map(|&share| (0..m).map(|bit| list(share, bit)).collect()).collect();
+    for bit in (0..m).filter(|bit| coefficient(table, 0) >> bit & 1 == 1) {
+        components[0][bit].push(Product::of(&[0; 5]));
+    }
+    Stage { table: table.to_vec(), components }
+}
+
+/// A linear layer that keeps its shares: the doubling in GF(16) modulo x^4 + x + 1, that of the MixColumns layers of LED and PHOTON,
+/// in three shares, component j reading share j alone.
+pub fn linear() -> Design {
+    let table: Vec<u8> = (0..16).map(|x| if x < 8 { 2 * x } else { 2 * x ^ 0b10011 }).collect();
+    let stage = layer(4, &table, &[0, 1, 2]);
+    Design { m: 4, s: 3, table, stages: vec![stage] }
+}
+
+/// The box 01234576 in three shares with the product of bit 1 and bit 2 of share 2 in component 2 and not in 1: component 2 then
+/// depends on every share.
 pub fn leaking() -> Design {
     let mut design = chain(3, 3, &[&[0, 1, 2, 3, 4, 5, 7, 6]]);
     let product = Product::of(&[0, 0b110, 0, 0, 0]);

@@ -1,7 +1,8 @@
 //! The bench designs of the papers, with the answers that the papers give.
 
 use reference::samples::{
-    chain, cubic, d, full, keccak_row, leaking, one_bit, six_bits, twenty_share_bits, PRESENT, PRESENT_F, PRESENT_G,
+    bits_apart, chain, cubic, d, full, keccak_row, leaking, linear, one_bit, six_bits, twenty_share_bits, PRESENT, PRESENT_F,
+    PRESENT_G,
 };
 use reference::{encode, forecast, judge, produce, read, repeats, run, to_coefficients, to_table, Answer, Product};
 
@@ -35,7 +36,8 @@ fn d_and_its_neighbours() {
     assert_eq!(encode(&one_bit([&[2], &[4], &[1]])), D);
     assert_eq!(verdict(&D), [0, 1, 0, 16]);
     assert_eq!(verdict(&encode(&one_bit([&[2], &[4], &[]]))), [12, 1, 0, 2]);
-    assert_eq!(verdict(&encode(&one_bit([&[1], &[2], &[4]]))), [13, 1, 1, 8]);
+    assert_eq!(verdict(&encode(&one_bit([&[1], &[2], &[4]]))), [0, 1, 0, 16]);
+    assert_eq!(verdict(&encode(&one_bit([&[1, 2, 4], &[], &[]]))), [13, 1, 1, 8]);
     assert_eq!(verdict(&encode(&one_bit([&[2, 4], &[1], &[]]))), [14, 1, 0, 13]);
     let with_box = |table: [u8; 2]| {
         let mut file = D;
@@ -71,7 +73,8 @@ fn trials_of_a_later_stage() {
         verdict(&encode(&design))
     };
     assert_eq!(with_last([&[2], &[4], &[]]), [12, 3, 0, 34]);
-    assert_eq!(with_last([&[1], &[2], &[4]]), [13, 3, 1, 40]);
+    assert_eq!(with_last([&[1], &[2], &[4]]), [0, 3, 0, 48]);
+    assert_eq!(with_last([&[], &[1, 2, 4], &[]]), [13, 3, 2, 40]);
     assert_eq!(with_last([&[2, 4], &[1], &[]]), [14, 3, 0, 45]);
 }
 
@@ -164,6 +167,8 @@ fn worked_designs() {
     assert_eq!(verdict(&encode(&present)), [0, 2, 0, 16_384]);
     assert!(!repeats(&keccak_row()));
     assert_eq!(verdict(&encode(&leaking())), [13, 1, 2, 512]);
+    assert_eq!(verdict(&encode(&linear())), [0, 1, 0, 8_192]);
+    assert_eq!(verdict(&encode(&bits_apart())), [13, 1, 1, 64]);
     assert_eq!(verdict(&produced(6, 3, &six_bits()).unwrap()), [0, 1, 0, 524_288]);
     assert_eq!(encode(&full()).len(), 32_767);
     assert!(read(&encode(&full())).is_ok());

@@ -1,7 +1,9 @@
 //! Writes data/files.txt to standard output: the bench designs of the papers that are whole files, and the worked
 //! designs, as lines `file HEX` for `rows`, in this order.
 
-use reference::samples::{chain, cubic, d, keccak_row, keccak_uniform, leaking, one_bit, PRESENT_F, PRESENT_G};
+use reference::samples::{
+    bits_apart, chain, cubic, d, keccak_row, keccak_uniform, leaking, linear, one_bit, PRESENT_F, PRESENT_G,
+};
 use reference::{encode, Product};
 
 fn main() {
@@ -18,7 +20,7 @@ fn main() {
     let files = [
         encode(&d()),                                    // D
         encode(&one_bit([&[2], &[4], &[]])),             // its last list empty: not correct
-        encode(&one_bit([&[1], &[2], &[4]])),            // component j reading share j alone
+        encode(&one_bit([&[1], &[2], &[4]])),            // component j reading share j alone: accepted too
         encode(&one_bit([&[2, 4], &[1], &[]])),          // not uniform
         with_box([1, 0]),                                // the chain is not S
         with_box([0, 0]),                                // S repeats an entry
@@ -34,7 +36,10 @@ fn main() {
         encode(&chain(4, 3, &[&PRESENT_F, &PRESENT_G])), // the stages the other way round: another box, accepted too
         encode(&chain(5, 3, &[&keccak])),                // Keccak's row map, three shares
         encode(&keccak_uniform()),                       // and four shares, uniform: 20 share bits
-        encode(&leaking()),                              // a component that reads its own share
+        encode(&leaking()),                              // component 2 depends on every share
+        encode(&linear()),                               // a linear layer, component j reading share j alone
+        encode(&one_bit([&[1, 2, 4], &[], &[]])),        // component 1 reading every share, the others none
+        encode(&bits_apart()),                           // each bit of component 1 ignores a share, not the same one
     ];
     for file in files {
         println!("file {}", file.iter().map(|byte| format!("{byte:02X}")).collect::<String>());

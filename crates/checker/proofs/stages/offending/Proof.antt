@@ -1,26 +1,26 @@
--- `offending` meets its contract. Components passed do not depend on their own share, lists passed name none of its variables, nor do terms passed.
+-- `offending` meets its contract. No component passed depends on every share; the set has the variables that the lists and terms passed name, and lacks a share.
 use mathlib.Core.Path.{_≡_}
 use Prim.Native.Nat.{_-_, _≤_}
 use native.Mathlib.Omega.{arith}
 use borrow.Author.Needs.{needs}
-use Rattle.design.proofs.Found.{width-high}
+use Rattle.design.proofs.Found.{width-high, shares-high}
 use Rattle.threshold.proofs.Sharing.{place-lt}
-use Rattle.checker.proofs.OwnShare.{NoTerm, NoList, NoComponent, no-term-yet, no-list-yet, no-component-yet}
-use Rattle.checker.proofs.OwnShare.{no-term-more, no-list-more, no-component-more, offending-found, offending-none, few-shares, place-fits, row-fits}
+use Rattle.checker.proofs.EveryShare.{OfLists, OfTerms, NoComponent, no-component-yet, lists-start, terms-start}
+use Rattle.checker.proofs.EveryShare.{terms-more, lists-more, no-component-more, offending-found, offending-none, place-fits, row-fits}
 use Rattle.checker.proofs.stages.offending.Statement.{statement}
 use Rattle.checker.proofs.stages.offending.Tie as tie
 
 abbrev Inv-loop2 : tie.InvT-loop2
-Inv-loop2 file layout t m s found₀ j own b list n i₀ found i = (i ≤ n) × (found ≡ found₀) × NoTerm list own i
+Inv-loop2 file layout t m s found₀ j named₀ b list n i₀ found named i = (i ≤ n) × (found ≡ found₀) × OfTerms file layout t j b list i named
 
 abbrev μ-loop2 : tie.MeasureT-loop2
-μ-loop2 file layout t m s found₀ j own b list n i₀ found i = n - i
+μ-loop2 file layout t m s found₀ j named₀ b list n i₀ found named i = n - i
 
 abbrev Inv-loop : tie.InvT-loop
-Inv-loop file layout t m s found₀ j own b₀ found b = (b ≤ m) × (found ≡ found₀) × NoList file layout t own j b
+Inv-loop file layout t m s found₀ j named₀ b₀ found named b = (b ≤ m) × (found ≡ found₀) × OfLists file layout t j b named
 
 abbrev μ-loop : tie.MeasureT-loop
-μ-loop file layout t m s found₀ j own b₀ found b = m - b
+μ-loop file layout t m s found₀ j named₀ b₀ found named b = m - b
 
 abbrev Inv-components : tie.InvT-components
 Inv-components file layout t m s found₀ j₀ found j = (j ≤ s) × (found ≡ s) × NoComponent file layout t j
@@ -39,21 +39,20 @@ offending-spec =
     Inv-components
     μ-components
     (λ c. search (arith, no-component-yet))
-    (λ c κs. search (width-high, few-shares))
-    (λ c. search (arith, no-list-yet))
+    (λ c. search (arith, lists-start))
     (λ c. search row-fits)
     (λ c. search place-fits)
     (λ c κs. search place-lt)
     (λ c κs. search needs)
-    (λ c. search (arith, no-term-yet))
+    (λ c. search (arith, terms-start))
     (λ c κs. search needs)
-    (λ c κs. search needs)
+    (λ c κs. search (width-high, shares-high))
     (λ c. search needs)
     (λ c. search needs)
-    (λ c. search (arith, no-term-more))
+    (λ c. search (arith, terms-more))
     (λ c. search needs)
     (λ c. search needs)
-    (λ c. search (arith, no-list-more))
+    (λ c. search (arith, lists-more))
     (λ c. search needs)
     (λ c. search needs)
     (λ c. search (arith, no-component-more))
