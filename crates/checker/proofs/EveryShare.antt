@@ -56,20 +56,16 @@ some-points m p e = let z = pow-pos m in omega arith
 pub few-points-less : (m p : ℕ) → p ≡ 2 ^ m → m ≤ greatestWidth → p - 1 < 4294967296
 few-points-less m p e h = let q : 2 ^ m ≤ 2 ^ 6 = pow-mono h in omega arith
 
--- ---- `names_every`: r is whether the set has a variable of share e, whose variables are the group
+-- ---- `names_every`: the set has a variable of each of the first e shares; r is whether it has one of share e, whose variables are the group
 
--- the set has a variable of each of the first e shares
-unfoldable pub NamesFirst : ℕ → ℕ → ℕ → Type 0
-NamesFirst m set e = all e (λ i. named (variables m i) set) ≡ true
-
-pub every-start : (m set : ℕ) → NamesFirst m set 0
-unfolding NamesFirst all
+pub every-start : (m set : ℕ) → namesEvery m 0 set ≡ true
+unfolding namesEvery all
 every-start m set = refl
 
-module _ (m s set e : ℕ) (so : NamesFirst m set e) where
+module _ (m s set e : ℕ) (so : namesEvery m e set ≡ true) where
   module _ (r : Bool) (group : ℕ) (k : r ≡ named group set) (q : group ≡ variables m e) where
-    pub every-more : not r ≡ false → NamesFirst m set (e + 1)
-    unfolding NamesFirst
+    pub every-more : not r ≡ false → namesEvery m (e + 1) set ≡ true
+    unfolding namesEvery
     every-more n = all-more e (λ i. named (variables m i) set) so (ap (λ (x : ℕ). named x set) (sym q) ∙ sym k ∙ not-false _ n)
 
     pub every-lacks : not r ≡ true → e < s → false ≡ namesEvery m s set
@@ -77,7 +73,6 @@ module _ (m s set e : ℕ) (so : NamesFirst m set e) where
     every-lacks n h = sym (all-fails s (λ i. named (variables m i) set) e h (ap (λ (x : ℕ). named x set) (sym q) ∙ sym k ∙ not-true _ n))
 
   pub every-end : e ≤ s → s ≤ e → true ≡ namesEvery m s set
-  unfolding NamesFirst namesEvery
   every-end a b = let z : e ≡ s = omega arith in sym (rw z at so)
 
 -- ---- what the three loops of `offending` have gathered: a set of variables
@@ -94,12 +89,12 @@ listsName f l t j b group = any b (λ k. names group (listOf (meaning f) t (l .h
 abbrev dependsFully : List ℕ → Layout → ℕ → ℕ → Bool
 dependsFully f l t = dependsOnAll (l .head .m) (l .head .s) (stageOf (meaning f) t)
 
--- the set is what the first b lists of component j name, and lacks a share
+-- the set has the variables that the first b lists of component j name, and none of some share
 pub record OfLists (f : List ℕ) (l : Layout) (t j b set : ℕ) : Type 0 where
   pub gathers : (group : ℕ) → named group set ≡ listsName f l t j b group
   pub lacks : namesEvery (l .head .m) (l .head .s) set ≡ false
 
--- the set is what these lists and the first i terms of the next name, and lacks a share
+-- the set has the variables that these lists and the first i terms of the next name, and none of some share
 pub record OfTerms (f : List ℕ) (l : Layout) (t j b : ℕ) (list : List ℕ) (i set : ℕ) : Type 0 where
   pub gathers : (group : ℕ) → named group set ≡ (listsName f l t j b group || termsName list i group)
   pub lacks : namesEvery (l .head .m) (l .head .s) set ≡ false

@@ -100,7 +100,7 @@ module _ (w s : ℕ) (gs : List Stage) (v : AllBijective w s gs) (x y i : ℕ) (
   pub setting-independent : (e : ℕ) → e < s → (p : ℕ → Bool) → timesPassed w s gs x i (λ τ. p (setting w e τ)) ≡ timesPassed w s gs y i (λ τ. p (setting w e τ))
   setting-independent e le p = passes w s gs v x i e lx le p ∙ sym (passes w s gs v y i e ly le p)
 
-  -- A test that ignores share e is a test of the setting.
+  -- Nor does it for a test that ignores share e: that is a test of the setting.
   blind-independent : (e : ℕ) → e < s → (p : ℕ → Bool) → ((σ : ℕ) → σ < 2 ^ (w * s) → (u : ℕ) → u < 2 ^ w → p (withShare w e u σ) ≡ p σ)
       → timesPassed w s gs x i p ≡ timesPassed w s gs y i p
   blind-independent e le p blind = of x ∙ setting-independent e le (λ q. p (putShare w e 0 q)) ∙ sym (of y)
@@ -110,7 +110,7 @@ module _ (w s : ℕ) (gs : List Stage) (v : AllBijective w s gs) (x y i : ℕ) (
           count-congr (2 ^ (w * s)) (λ σ. eqb (sum w s σ) z && p (handed gs i σ)) (λ σ. eqb (sum w s σ) z && p (withShare w e 0 (handed gs i σ)))
           (λ σ l. ap (λ (b : Bool). eqb (sum w s σ) z && b) (sym (blind (handed gs i σ) (handed-lt w s i gs v σ l) 0 (pow-pos w))))
 
-  -- So is whether a function that ignores a share gives the value z,
+  -- Such tests are whether a function that ignores a share gives the value z,
   pub value-independent : (f : ℕ → ℕ) (z : ℕ) → IgnoresSome w s f → timesPassed w s gs x i (λ τ. eqb (f τ) z) ≡ timesPassed w s gs y i (λ τ. eqb (f τ) z)
   value-independent f z some = blind-independent (some .0) (some .1) (λ τ. eqb (f τ) z) (λ σ l u lu. ap (λ (r : ℕ). eqb r z) (some .2 σ l u lu))
 

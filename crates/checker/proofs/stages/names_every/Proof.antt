@@ -1,13 +1,16 @@
 -- `names_every` meets its contract: the set has a variable of each share passed.
+use mathlib.Core.Path.{_≡_}
+use mathlib.Core.Bool.{true}
 use Prim.Native.Nat.{_-_, _≤_}
 use native.Mathlib.Omega.{arith}
 use borrow.Author.Needs.{needs}
-use Rattle.checker.proofs.EveryShare.{NamesFirst, every-start, every-more, every-lacks, every-end}
+use Rattle.threshold.specs.inside.Variables.{namesEvery}
+use Rattle.checker.proofs.EveryShare.{every-start, every-more, every-lacks, every-end}
 use Rattle.checker.proofs.stages.names_every.Statement.{statement}
 use Rattle.checker.proofs.stages.names_every.Tie as tie
 
 abbrev Inv-loop : tie.InvT-loop
-Inv-loop set m s e₀ e = (e ≤ s) × NamesFirst m set e
+Inv-loop set m s e₀ e = (e ≤ s) × (namesEvery m e set ≡ true)
 
 abbrev μ-loop : tie.MeasureT-loop
 μ-loop set m s e₀ e = s - e
