@@ -3,8 +3,8 @@
  *
  * A design file states an S-box S of m bits, s shares for each value and a chain of k stages, each with a table G and
  * one list of products for every output bit of every component. The library reads such a file, forecasts what a verdict
- * on it takes, gives that verdict, runs it on given shares, and produces one from a table. Shares, components and stages
- * are numbered from 1, bits and bytes from 0.
+ * on it takes, gives that verdict, runs it on given shares, and produces one from a table; and it transforms a table
+ * into its coefficient words and back. Shares, components and stages are numbered from 1, bits and bytes from 0.
  *
  * What a caller owes, for every function here: a pointer and the length after it are a buffer of that many readable
  * bytes (an output or a workspace: writable too), and no buffer that is written to overlaps another of the same call.
@@ -40,13 +40,13 @@ extern "C" {
 
 /* The reasons. Each is given by the operations named after it. */
 #define JESTRUNAS_ACCEPTED 0             /* judge: the design is accepted */
-#define JESTRUNAS_OK 0                   /* read, forecast, run, produce, passages: done, with no verdict on the design */
+#define JESTRUNAS_OK 0                   /* read, forecast, run, produce, transform: done, with no verdict on the design */
 /* Refusals of reading: read, judge, run; those of the head record, 1 to 4, forecast too. */
 #define JESTRUNAS_CUT_SHORT 1            /* a record's head or its body is cut short */
 #define JESTRUNAS_WRONG_KIND 2           /* a record's kind is not the one due */
-#define JESTRUNAS_WRONG_LENGTH 3         /* a record's length is not the one due; produce, passages: the table's length */
-#define JESTRUNAS_LIMIT_BROKEN 4         /* a head number breaks a limit; produce, passages: m or s does */
-#define JESTRUNAS_ENTRY_TOO_LARGE 5      /* a table entry is 2^m or more; produce, passages: an entry or a word is */
+#define JESTRUNAS_WRONG_LENGTH 3         /* a record's length is not the one due; produce, transform: the table's length */
+#define JESTRUNAS_LIMIT_BROKEN 4         /* a head number breaks a limit; produce, transform: m or s does */
+#define JESTRUNAS_ENTRY_TOO_LARGE 5      /* a table entry is 2^m or more; produce, transform: an entry or a word is */
 #define JESTRUNAS_BAD_TERM 6             /* a term names a variable beyond m * s, or does not rise */
 #define JESTRUNAS_BYTES_FOLLOW 7         /* bytes follow the end */
 /* Refusals of the verdict: judge. */
@@ -60,7 +60,7 @@ extern "C" {
 /* Refusals of the other operations. */
 #define JESTRUNAS_BAD_SHARE 15           /* run: a used share is 2^m or more, or an unused one is not 0 */
 #define JESTRUNAS_DEGREE_TOO_HIGH 16     /* produce: the degree is s or more */
-#define JESTRUNAS_OUTPUT_TOO_SHORT 17    /* produce, passages: the result does not fit the lent output */
+#define JESTRUNAS_OUTPUT_TOO_SHORT 17    /* produce, transform: the result does not fit the lent output */
 #define JESTRUNAS_INPUT_TOO_LONG 18      /* the verdict program only: its input exceeds 32,768 bytes */
 
 /*
@@ -163,14 +163,12 @@ jestrunas_produced_t jestrunas_produce(size_t m, size_t s, const uint8_t *table,
                                        size_t output_len);
 
 /*
- * The coefficient words of a table's algebraic normal form: the word at set u is the sum (XOR) of the entries at all
- * subsets of u. Answers 0 and writes the first 2^m output bytes only; or 4, 3, 5 or 17, tested in this order, the
- * output untouched.
+ * The transform between a table and the coefficient words of its algebraic normal form: the word at set u is the sum
+ * (XOR) of the entries at all subsets of u. Of a table this gives the coefficient words, of coefficient words the table;
+ * what is written is accepted, and transformed again it gives the input. Answers 0 and writes the first 2^m output bytes
+ * only; or 4, 3, 5 or 17, tested in this order, the output untouched.
  */
-size_t jestrunas_to_coefficients(size_t m, const uint8_t *input, size_t input_len, uint8_t *output, size_t output_len);
-
-/* The table that coefficient words stand for: the way back, with the same answers and promises. */
-size_t jestrunas_to_table(size_t m, const uint8_t *input, size_t input_len, uint8_t *output, size_t output_len);
+size_t jestrunas_transform(size_t m, const uint8_t *input, size_t input_len, uint8_t *output, size_t output_len);
 
 #ifdef __cplusplus
 }

@@ -24,8 +24,7 @@ static void call_forecast(void) { jestrunas_forecast(file, file_len); }
 static void call_judge(void) { jestrunas_judge(file, file_len, workspace, sizeof workspace); }
 static void call_run(void) { jestrunas_run(file, file_len, given); }
 static void call_produce(void) { jestrunas_produce(width, shares, table, table_len, output, sizeof output); }
-static void call_to_coefficients(void) { jestrunas_to_coefficients(width, table, table_len, output, sizeof output); }
-static void call_to_table(void) { jestrunas_to_table(width, table, table_len, output, sizeof output); }
+static void call_transform(void) { jestrunas_transform(width, table, table_len, output, sizeof output); }
 
 /* How many bytes of the stack a call changes, from the top down. */
 static size_t changed(void (*call)(void)) {
@@ -51,10 +50,9 @@ static struct {
     {"judge", call_judge, 0},
     {"run", call_run, 0},
     {"produce", call_produce, 0},
-    {"to_coefficients", call_to_coefficients, 0},
-    {"to_table", call_to_table, 0},
+    {"transform", call_transform, 0},
 };
-enum { READ, FORECAST, JUDGE, RUN, PRODUCE, TO_COEFFICIENTS, TO_TABLE, COUNT };
+enum { READ, FORECAST, JUDGE, RUN, PRODUCE, TRANSFORM, COUNT };
 
 static void measure(int i) {
     size_t bytes = changed(operations[i].call);
@@ -86,8 +84,7 @@ static void measure_table(size_t degree) {
         table[x] = (uint8_t)((x & all) == all ? x ^ (all + 1) : x);
     }
     for (shares = JESTRUNAS_SHARES_MIN; shares <= JESTRUNAS_SHARES_MAX; shares++) measure(PRODUCE);
-    measure(TO_COEFFICIENTS);
-    measure(TO_TABLE);
+    measure(TRANSFORM);
 }
 
 int main(int argc, char **argv) {

@@ -92,10 +92,12 @@ int main(void) {
     expect(jestrunas_produce(4, 2, NULL, 0, NULL, 0).reason == JESTRUNAS_LIMIT_BROKEN, "produce with two shares");
     expect(jestrunas_produce(1, 3, NULL, 0, NULL, 0).reason == JESTRUNAS_WRONG_LENGTH, "produce from no table");
 
-    expect(jestrunas_to_coefficients(3, box, 8, words, 8) == JESTRUNAS_OK && !memcmp(words, coefficients, 8), "to coefficients");
-    expect(jestrunas_to_table(3, words, 8, again, 8) == JESTRUNAS_OK && !memcmp(again, box, 8), "to table");
-    expect(jestrunas_to_table(3, words, 8, NULL, 0) == JESTRUNAS_OUTPUT_TOO_SHORT, "to table into no output");
-    expect(jestrunas_to_coefficients(0, NULL, 0, NULL, 0) == JESTRUNAS_LIMIT_BROKEN, "to coefficients, no width");
+    expect(jestrunas_transform(3, box, 8, words, 8) == JESTRUNAS_OK && !memcmp(words, coefficients, 8), "transform a table");
+    expect(jestrunas_transform(3, words, 8, again, 8) == JESTRUNAS_OK && !memcmp(again, box, 8), "transform its coefficients");
+    expect(jestrunas_transform(0, NULL, 0, NULL, 0) == JESTRUNAS_LIMIT_BROKEN, "transform with no width");
+    expect(jestrunas_transform(3, NULL, 0, NULL, 0) == JESTRUNAS_WRONG_LENGTH, "transform no table");
+    expect(jestrunas_transform(1, box + 1, 2, NULL, 0) == JESTRUNAS_ENTRY_TOO_LARGE, "transform 1 2 of one bit");
+    expect(jestrunas_transform(3, box, 8, NULL, 0) == JESTRUNAS_OUTPUT_TOO_SHORT, "transform into no output");
 
     if (!wrong) printf("every call answers as published\n");
     return wrong;

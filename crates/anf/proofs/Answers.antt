@@ -1,4 +1,4 @@
--- What the passages answer and leave, one law for each way out; and that one after the other gives the input back.
+-- What the transform answers and leaves, one law for each way out; and that applied twice it gives the input back.
 use mathlib.Core.Path.{_≡_, refl, sym, ap, _∙_}
 use mathlib.Core.Bool.{Bool, true, false, not, _||_}
 use mathlib.Core.List.{List, _++_, _∷_, []}
@@ -8,21 +8,15 @@ use lib.Dec.{eqb, ltb}
 use lib.ListN.{length, getD, take, drop}
 use lib.Seq.{ext-getD, take-at}
 use borrow.Author.Tests.{lt-ltb, le-ltb, eq-eqb, ne-eqb, ltb-false, eqb-true, not-false}
-use Rattle.finite.specs.Tests.{tabulate}
 use Rattle.finite.specs.Faults.{firstFault}
-use Rattle.finite.proofs.Testing.{or-false, tabulate-congr, tabulate-length, tabulate-at, or-none, or-left, or-right}
+use Rattle.finite.proofs.Testing.{or-false, tabulate-length, tabulate-at, or-none, or-left, or-right}
 use Rattle.finite.proofs.Faults.{fault-here, fault-past, no-fault, fault-none}
 use Rattle.anf.specs.NormalForm.{subsetSum, degree}
 use Rattle.anf.specs.Tables.{entriesBelow}
-use Rattle.anf.specs.inside.Words.{wordsDegree, sumAt}
+use Rattle.anf.specs.inside.Words.{wordsDegree}
 use Rattle.anf.specs.Transform.{greatestWidth, transformReason, transformAfter, transformed}
-use Rattle.anf.proofs.Transform.{subsetSum-twice, subsetSum-ext, subsetSum-lt}
+use Rattle.anf.proofs.SubsetSums.{subsetSum-twice, subsetSum-ext, subsetSum-lt}
 use Rattle.anf.proofs.Tables.{entries-at, entries-intro, words-degree}
-
--- over 2^m entries the sum of a list's entries is the sum over subsets for m variables
-pub sumAt-subsetSum : (m : ℕ) (t : List ℕ) (u : ℕ) → length t ≡ 2 ^ m → sumAt t u ≡ subsetSum m (λ v. getD t v 0) u
-unfolding subsetSum sumAt
-sumAt-subsetSum m t u e = rw e refl
 
 -- the reason answered, and the output afterwards
 pub record Answered (m : ℕ) (t out : List ℕ) (r : ℕ) (after : List ℕ) : Type 0 where
@@ -71,17 +65,14 @@ module _ (m : ℕ) (t out : List ℕ) where
           pub short : length out < n → Answered m t out 17 out
           short f = let k : length out < 2 ^ m = rw e at f in refuses m t out 17 (last ∙ fault-here _ 17 _ 0 (lt-ltb _ _ k)) (omega arith)
 
-          pub done : n ≤ length out → (after : List ℕ) → after ≡ tabulate n (sumAt t) ++ drop n out → Answered m t out 0 after
+          pub done : n ≤ length out → (after : List ℕ) → after ≡ transformed m t ++ drop (2 ^ m) out → Answered m t out 0 after
           unfolding transformAfter
           done f after d =
               let k : 2 ^ m ≤ length out = rw e at f in
               let r : transformReason m t (length out) ≡ 0 = last ∙ fault-past _ 17 _ 0 (le-ltb _ _ k) ∙ fault-none 0 in
-              let q : tabulate n (sumAt t) ++ drop n out ≡ transformed m t ++ drop (2 ^ m) out =
-              rw e (ap (λ (x : List ℕ). x ++ drop (2 ^ m) out)
-              (tabulate-congr (2 ^ m) (sumAt t) (subsetSum m (λ v. getD t v 0)) (λ u p. sumAt-subsetSum m t u (l ∙ e)))) in
-              record { reason = sym r; left = d ∙ q ∙ sym (rw r refl) }
+              record { reason = sym r; left = d ∙ sym (rw r refl) }
 
--- ---- what is accepted, and that the passages undo each other
+-- ---- what is accepted, and that the transform applied twice gives it back
 
 -- every test has passed
 pub record InputPasses (m : ℕ) (input : List ℕ) (room : ℕ) : Type 0 where
@@ -110,14 +101,8 @@ reason-input m input room e =
 pub input-answer : (m : ℕ) (input output : List ℕ) → InputPasses m input (length output)
     → (transformReason m input (length output) ≡ 0) × (transformAfter m input output ≡ transformed m input ++ drop (2 ^ m) output)
 input-answer m input output a =
-    let s = sumAt-all in
-    let w = done m input output (a .least) (a .most) (2 ^ m) refl (a .size) true (sym (a .below)) refl (a .room-enough) (transformed m input ++ drop (2 ^ m) output)
-    (ap (λ (x : List ℕ). x ++ drop (2 ^ m) output) s) in
+    let w = done m input output (a .least) (a .most) (2 ^ m) refl (a .size) true (sym (a .below)) refl (a .room-enough) (transformed m input ++ drop (2 ^ m) output) refl in
     (sym (w .reason), sym (w .left))
-  where
-    sumAt-all : transformed m input ≡ tabulate (2 ^ m) (sumAt input)
-    sumAt-all =
-        tabulate-congr (2 ^ m) (subsetSum m (λ v. getD input v 0)) (sumAt input) (λ u p. sym (sumAt-subsetSum m input u (a .size)))
 
 -- the result of an accepted input is accepted, and transforms into that input
 pub transformed-back : (m : ℕ) (input : List ℕ) → length input ≡ 2 ^ m → transformed m (transformed m input) ≡ input
@@ -134,11 +119,11 @@ transformed-below m input e b =
     (λ u l. rw (tabulate-at (2 ^ m) (subsetSum m (λ v. getD input v 0)) u 0 (rw (tabulate-length (2 ^ m) (subsetSum m (λ v. getD input v 0))) at l))
     (subsetSum-lt m m u (λ v. getD input v 0) (λ v k. entries-at input (2 ^ m) b v (omega (arith, e)))))
 
--- The two operations undo each other: what one writes for an accepted input, the other accepts, and writes the input back.
-pub transform-back : (m : ℕ) (input output back : List ℕ) → transformReason m input (length output) ≡ 0 → 2 ^ m ≤ length back
+-- Applied twice it returns the input: what it writes for an accepted input it accepts, and writes the input back.
+pub transform-twice : (m : ℕ) (input output back : List ℕ) → transformReason m input (length output) ≡ 0 → 2 ^ m ≤ length back
     → (transformReason m (take (2 ^ m) (transformAfter m input output)) (length back) ≡ 0)
     × (transformAfter m (take (2 ^ m) (transformAfter m input output)) back ≡ input ++ drop (2 ^ m) back)
-transform-back m input output back e room =
+transform-twice m input output back e room =
     let a = reason-input m input (length output) e in
     let c = transformed m input in
     let size : length c ≡ 2 ^ m = tabulate-length (2 ^ m) (subsetSum m (λ v. getD input v 0)) in

@@ -25,7 +25,7 @@ use Rattle.finite.proofs.Subsets.{and-top-low, xor-top-low, Top, low, top, top-
 use Rattle.finite.proofs.Elements.{ones-top}
 use Rattle.anf.specs.Points.{Points, IgnoresPoint}
 use Rattle.anf.specs.NormalForm.{subsetSum, largest, degree}
-use Rattle.anf.proofs.Transform.{subsetSum-ext, subsetSum-xor, subsetSum-none, subsetSum-const, subsetSum-empty, subsetSum-union}
+use Rattle.anf.proofs.SubsetSums.{subsetSum-ext, subsetSum-xor, subsetSum-none, subsetSum-const, subsetSum-empty, subsetSum-union}
 
 -- ---- sums over tuples of points, one a part of each block
 

@@ -1,5 +1,6 @@
 -- Laws of normal form.
-pub mod Transform
+pub mod SubsetSums
+pub mod InPlace
 pub mod Terms
 pub mod Passing
 pub mod Degree

@@ -16,7 +16,7 @@ use Rattle.finite.proofs.Xor.{bit-cases}
 use Rattle.finite.proofs.Sums.{xorBelow-ext}
 use Rattle.anf.specs.NormalForm.{subsetSum}
 use Rattle.anf.specs.Terms.{valueAt, TermList, passing}
-use Rattle.anf.proofs.Transform.{subsetSum-twice, subsetSum-bit}
+use Rattle.anf.proofs.SubsetSums.{subsetSum-twice, subsetSum-bit}
 use Rattle.anf.proofs.Terms.{Rising, rising-terms, valueAt-append}
 
 pub passing-none : (n : ℕ) → passing n (λ q. false) ≡ []

@@ -1,29 +1,25 @@
--- The loops and branches of the crate over plain values, for each a law for its start, a turn and its end: t is the table, i how many entries are passed.
+-- The loops and branches of what tables are tested for and of the degree, over plain values, for each a law for its start, a turn and its end:
+-- t is the table, i how many entries are passed.
 -- Assumes nothing.
 use mathlib.Core.Path.{_≡_, refl, sym, ap₂, _∙_}
 use mathlib.Core.Bool.{Bool, true, false}
-use mathlib.Core.List.{List, _++_}
+use mathlib.Core.List.{List}
 use Prim.Native.Nat.{ℕ, _+_, _^_, _≤_, _<_, max}
 use native.Mathlib.Omega.{arith}
-use lib.Bits.{bitAnd, bitXor}
 use lib.Count.{ones, ones-le}
 use lib.Dec.{eqb, ltb}
-use lib.ListN.{length, getD, set, drop, length-set}
+use lib.ListN.{length, getD}
 use borrow.Author.Tests.{lt-ltb, le-ltb, eq-eqb, ne-eqb}
 use borrow.Rule.Slice.Know.{Fit}
 use borrow.Table.Referent.{fInt}
 use mir.Syntax.{w8, w64}
 use mir.Val.{Fits}
-use Rattle.finite.specs.Tests.{pick, all, any, tabulate}
-use Rattle.finite.specs.Sums.{xorBelow}
-use Rattle.finite.specs.Sets.{subset}
+use Rattle.finite.specs.Tests.{pick, all, any}
 use Rattle.finite.specs.Maps.{metBefore, repeats}
-use Rattle.finite.proofs.Testing.{pick-true, pick-false, all-more, all-fails, any-at, any-none-more, tabulate-more}
-use Rattle.finite.proofs.Sums.{xorBelow-step}
-use Rattle.finite.proofs.Subsets.{eq-subset, ne-subset}
+use Rattle.finite.proofs.Testing.{pick-true, pick-false, all-more, all-fails, any-at, any-none-more}
 use Rattle.anf.specs.NormalForm.{largest}
 use Rattle.anf.specs.Tables.{entriesBelow, entry}
-use Rattle.anf.specs.inside.Words.{wordsDegree, sumAt}
+use Rattle.anf.specs.inside.Words.{wordsDegree}
 use Rattle.anf.proofs.Degree.{largest-more}
 
 -- ---- `entries_below`: the entries passed are below the bound
@@ -122,46 +118,3 @@ module _ (words : List ℕ) where
     pub degree-end : u ≤ length words → length words ≤ u → d ≡ wordsDegree words
     unfolding wordsDegree
     degree-end a b = let e : u ≡ length words = omega arith in rw e at (p .is)
-
--- ---- `kept`, `subset_sum`: s is the sum of the entries passed at subsets of u
-
-module _ (word v u : ℕ) where
-  pub kept-subset : bitAnd v u ≡ v → word ≡ pick (subset v u) word 0
-  kept-subset e = sym (pick-true _ _ _ (eq-subset v u e))
-
-  pub kept-none : (bitAnd v u ≡ v → ⊥) → 0 ≡ pick (subset v u) word 0
-  kept-none n = sym (pick-false _ _ _ (ne-subset v u n))
-
-pub record SumOf (t : List ℕ) (u v s : ℕ) : Type 0 where
-  pub is : s ≡ xorBelow v (λ k. pick (subset k u) (getD t k 0) 0)
-
-module _ (t : List ℕ) (u : ℕ) where
-  pub sum-start : SumOf t u 0 0
-  unfolding xorBelow
-  sum-start = record { is = refl }
-
-  module _ (v s : ℕ) (p : SumOf t u v s) where
-    pub sum-more : (x : ℕ) → x ≡ pick (subset v u) (getD t v 0) 0 → SumOf t u (v + 1) (bitXor s x)
-    sum-more x e = record { is = xorBelow-step v _ s _ x (p .is) refl (sym e) }
-
-    pub sum-end : v ≤ length t → length t ≤ v → s ≡ sumAt t u
-    unfolding sumAt
-    sum-end a b = let e : v ≡ length t = omega arith in rw e at (p .is)
-
--- ---- `write_sums`: the sums passed are written over o₀, and what follows is untouched
-
-pub record Written (t o₀ o : List ℕ) (u : ℕ) : Type 0 where
-  pub size : length o ≡ length o₀
-  pub is : o ≡ tabulate u (sumAt t) ++ drop u o₀
-
-module _ (t o₀ : List ℕ) where
-  pub written-start : Written t o₀ o₀ 0
-  unfolding tabulate
-  written-start = record { size = refl; is = refl }
-
-  module _ (o : List ℕ) (u : ℕ) (w : Written t o₀ o u) where
-    pub written-more : (n : ℕ) → u < n → n ≤ length o₀ → (s : ℕ) → s ≡ sumAt t u → Written t o₀ (set o u s) (u + 1)
-    written-more n h k s e = record { size = simp length-set (w .size); is = rw (w .is, e) (tabulate-more u (sumAt t) o₀ (omega arith)) }
-
-    pub written-end : (n : ℕ) → u ≤ n → n ≤ u → o ≡ tabulate n (sumAt t) ++ drop n o₀
-    written-end n a b = let e : u ≡ n = omega arith in rw e at (w .is)

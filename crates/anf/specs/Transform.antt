@@ -1,4 +1,5 @@
--- "To coefficients and back": the answer, and the output afterwards. Both passages take the sum over subsets, so they share these definitions.
+-- "To coefficients and back": the answer, and the output afterwards. The sums over subsets of a table are its coefficient words, and of
+-- coefficient words they are the table: one operation goes both ways.
 use Prim.Native.Nat.{ℕ, _^_}
 use mathlib.Core.Bool.{not, _||_, Bool}
 use mathlib.Core.List.{List, _++_, _∷_, []}

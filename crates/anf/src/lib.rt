@@ -1,16 +1,17 @@
-// Normal form: the passage between a table and its coefficients, and what tables are tested for.
+// Normal form: the transform between a table and its coefficients, and what tables are tested for.
+use finite::copy;
+use finite::power;
 ghost use mathlib.Core.Path.{_≡_};
 ghost use mathlib.Core.List.{_++_};
-ghost use Prim.Native.Nat.{_^_, _<_, _≤_, max};
+ghost use Prim.Native.Nat.{_+_, _^_, _<_, _≤_, max};
 ghost use lib.Dec.{eqb};
 ghost use lib.Count.{ones};
 ghost use lib.ListN.{length, drop};
 ghost use Rattle.finite.specs.Tests.{pick, tabulate};
-ghost use Rattle.finite.specs.Sets.{subset};
 ghost use Rattle.finite.specs.Maps.{metBefore, repeats};
 ghost use Rattle.anf.specs.Tables.{entriesBelow, entry};
-ghost use Rattle.anf.specs.inside.Words.{wordsDegree, sumAt};
-ghost use Rattle.anf.specs.Transform.{transformReason, transformAfter};
+ghost use Rattle.anf.specs.inside.Words.{wordsDegree, lowerAdded, overVariable};
+ghost use Rattle.anf.specs.Transform.{greatestWidth, transformReason, transformAfter, transformed};
 
 // The greatest width of a table.
 pub const GREATEST_WIDTH: usize = 6;
@@ -90,44 +91,56 @@ fn larger(a: usize, b: usize) -> usize
     if a < b { b } else { a }
 }
 
-// The word at the set v, or 0 where v is no subset of u.
-fn kept(word: u8, v: usize, u: usize) -> u8
-    ensures { λ r. ⌜ r ≡ pick (subset v u) word 0 ⌝ }
+// Adds the lower half of a block to its upper half, word by word.
+fn add_lower(half: usize, block: &mut [u8])
+    requires { ⌜ length (now block) ≡ half + half ⌝ }
+    ensures { λ _. ⌜ now (block .exit) ≡ lowerAdded half (now (block .entry)) ⌝ }
 {
-    if v & u == v {
-        return word;
-    }
-    0
-}
-
-// The sum of the entries at all subsets of u.
-fn subset_sum(table: &[u8], u: usize) -> u8
-    ensures { λ r. ⌜ r ≡ sumAt (now (table .entry)) u ⌝ }
-{
-    let mut sum: u8 = 0;
-    let mut v: usize = 0;
-    while v < table.len() {
-        sum = sum ^ kept(table[v], v, u);
-        v += 1;
-    }
-    sum
-}
-
-// Writes the sums over subsets over the first n bytes.
-fn write_sums(n: usize, input: &[u8], output: &mut [u8])
-    requires { ⌜ n ≤ length (now output) ⌝ }
-    ensures { λ _. ⌜ now (output .exit) ≡ tabulate n (sumAt (now (input .entry))) ++ drop n (now (output .entry)) ⌝ }
-{
-    let mut u: usize = 0;
-    while u < n {
-        let sum = subset_sum(input, u);
-        output[u] = sum;
-        u += 1;
+    let mut i: usize = 0;
+    while i < half {
+        let upper = half + i;
+        block[upper] = block[i] ^ block[upper];
+        i += 1;
     }
 }
 
-// The passage between a table and its coefficient words, which is one calculation both ways.
-fn convert(m: usize, input: &[u8], output: &mut [u8]) -> usize
+// The same in every block of 2^(k + 1) words: each set that has variable k gets the word of the set without it added. m is for the contract alone.
+fn add_variable(m: usize, k: usize, words: &mut [u8])
+    requires { ⌜ (k < m) × (m ≤ greatestWidth) × (length (now words) ≡ 2 ^ m) ⌝ }
+    ensures { λ _. ⌜ now (words .exit) ≡ tabulate (2 ^ m) (overVariable k (entry (now (words .entry)))) ⌝ }
+{
+    let half = power(k);
+    let block = half + half;
+    let mut at: usize = 0;
+    while at < words.len() {
+        add_lower(half, &mut words[at..at + block]);
+        at += block;
+    }
+}
+
+// The sums over subsets in place of the words, one variable after the other.
+fn sum_subsets(m: usize, words: &mut [u8])
+    requires { ⌜ (m ≤ greatestWidth) × (length (now words) ≡ 2 ^ m) ⌝ }
+    ensures { λ _. ⌜ now (words .exit) ≡ transformed m (now (words .entry)) ⌝ }
+{
+    let mut k: usize = 0;
+    while k < m {
+        add_variable(m, k, words);
+        k += 1;
+    }
+}
+
+// Writes the sums over subsets of the input over the front of the output.
+fn write_sums(m: usize, input: &[u8], output: &mut [u8])
+    requires { ⌜ (m ≤ greatestWidth) × (length (now input) ≡ 2 ^ m) × (2 ^ m ≤ length (now output)) ⌝ }
+    ensures { λ _. ⌜ now (output .exit) ≡ transformed m (now (input .entry)) ++ drop (2 ^ m) (now (output .entry)) ⌝ }
+{
+    copy(input, output);
+    sum_subsets(m, &mut output[..input.len()]);
+}
+
+// The coefficient words of a table of 2^m entries, or the table of 2^m coefficient words: the sums over subsets are both.
+pub fn transform(m: usize, input: &[u8], output: &mut [u8]) -> usize
     ensures { λ r. ⌜ r ≡ transformReason m (now (input .entry)) (length (now (output .entry))) ⌝ }
     ensures { λ _. ⌜ now (output .exit) ≡ transformAfter m (now (input .entry)) (now (output .entry)) ⌝ }
 {
@@ -137,7 +150,7 @@ fn convert(m: usize, input: &[u8], output: &mut [u8]) -> usize
     if GREATEST_WIDTH < m {
         return 4;
     }
-    let n = finite::power(m);
+    let n = power(m);
     if input.len() != n {
         return 3;
     }
@@ -147,22 +160,6 @@ fn convert(m: usize, input: &[u8], output: &mut [u8]) -> usize
     if output.len() < n {
         return 17;
     }
-    write_sums(n, input, output);
+    write_sums(m, input, output);
     0
-}
-
-// The coefficient words of a table of 2^m entries.
-pub fn to_coefficients(m: usize, input: &[u8], output: &mut [u8]) -> usize
-    ensures { λ r. ⌜ r ≡ transformReason m (now (input .entry)) (length (now (output .entry))) ⌝ }
-    ensures { λ _. ⌜ now (output .exit) ≡ transformAfter m (now (input .entry)) (now (output .entry)) ⌝ }
-{
-    convert(m, input, output)
-}
-
-// The table that has these 2^m coefficient words.
-pub fn to_table(m: usize, input: &[u8], output: &mut [u8]) -> usize
-    ensures { λ r. ⌜ r ≡ transformReason m (now (input .entry)) (length (now (output .entry))) ⌝ }
-    ensures { λ _. ⌜ now (output .exit) ≡ transformAfter m (now (input .entry)) (now (output .entry)) ⌝ }
-{
-    convert(m, input, output)
 }

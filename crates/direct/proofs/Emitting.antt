@@ -12,7 +12,7 @@ use lib.Pow.{pow-lt, pow-mono}
 use lib.Count.{ones}
 use lib.ListN.{length, getD, length-append}
 use borrow.Author.Tests.{eq-eqb, ne-eqb}
-use Rattle.finite.proofs.Elements.{has-low, has-top, has-beyond, ones-top}
+use Rattle.finite.proofs.Elements.{has-low, has-odd, has-beyond, ones-top}
 use Rattle.finite.specs.Tests.{pick}
 use Rattle.finite.specs.Sets.{has}
 use Rattle.finite.proofs.Testing.{below, pick-true, pick-false}
@@ -122,7 +122,7 @@ module _ (rule : List ℕ) (m s c : ℕ) where
     pub emitted-each : (p J : ℕ) → emitted rule m s u c m p J ≡ joined s (onward (u - 2 ^ v) v p J)
     emitted-each p J =
         emitted-high rule m s u c (suc v) m p J (subst (λ (k : ℕ). u < 2 ^ k) (add-one v) (t .most)) variable-lt
-        ∙ emitted-variable rule m s u c v p J (ap (λ (x : ℕ). has x v) whole ∙ has-top v (u - 2 ^ v) left-lt)
+        ∙ emitted-variable rule m s u c v p J (ap (λ (x : ℕ). has x v) whole ∙ has-odd v 0 (u - 2 ^ v) left-lt)
         ∙ joined-congr s _ _ rest
       where
         rest : (j : ℕ) → emitted rule m s u c v (bitOr p (2 ^ (m * j + v))) (bitOr J (2 ^ j)) ≡ onward (u - 2 ^ v) v p J j

@@ -16,7 +16,7 @@ use Rattle.finite.proofs.Sums.{xorBelow-ext, pick-both, xorBelow-blocks, pick-s
 use Rattle.finite.proofs.Subsets.{Top, low, top, top-cases, xor-top-low, subset-eq, eq-subset, subset-empty, xor-top-top}
 use Rattle.finite.proofs.Elements.{subset-low, subset-split, subset-top, subset-one-xor}
 use Rattle.anf.specs.NormalForm.{subsetSum}
-use Rattle.anf.proofs.Transform.{subsetSum-ext, subsetSum-none, subsetSum-low, subsetSum-top, subsetSum-zero}
+use Rattle.anf.proofs.SubsetSums.{subsetSum-ext, subsetSum-none, subsetSum-low, subsetSum-top, subsetSum-zero}
 use Rattle.threshold.specs.Sharing.{share, sum}
 use Rattle.threshold.proofs.Sharing.{share-top, pow-step}
 use Rattle.direct.specs.Direct.{isProduct}

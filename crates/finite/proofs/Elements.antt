@@ -136,9 +136,13 @@ has-low k a r i l h =
         sym (ap (λ (y : ℕ). x % 2 ^ y / 2 ^ i % 2) d ∙ ap (λ (y : ℕ). y % 2) (field x (k - suc i + 1) i)
         ∙ mod-mod-pow (x / 2 ^ i) (k - suc i) 1)
 
--- the bit above a block of low bits
-pub has-top : (k r : ℕ) → r < 2 ^ k → has (1 * 2 ^ k + r) k ≡ true
-has-top k r l = bit-has (1 * 2 ^ k + r) k (ap (λ (x : ℕ). x % 2) (high 1 k l))
+-- the bit above a block of low bits is there where the number of the block is odd
+pub has-odd : (k a r : ℕ) → r < 2 ^ k → has ((2 * a + 1) * 2 ^ k + r) k ≡ true
+has-odd k a r l = bit-has ((2 * a + 1) * 2 ^ k + r) k (ap (λ (x : ℕ). x % 2) (high (2 * a + 1) k l) ∙ omega arith)
+
+pub has-even : (k a r : ℕ) → r < 2 ^ k → has (2 * a * 2 ^ k + r) k ≡ false
+unfolding has
+has-even k a r l = let e : 2 * a % 2 ≡ 0 = omega arith in ap (λ (x : ℕ). eqb (x % 2) 1) (high (2 * a) k l) ∙ ap (λ (x : ℕ). eqb x 1) e
 
 -- a set has no element beyond its bits
 pub has-beyond : (x k : ℕ) → x < 2 ^ k → has x k ≡ false

@@ -1,4 +1,4 @@
--- Laws of tests, counts, sums, sets, maps and faults.
+-- Laws of tests, counts, sums, sets, maps, faults and copying.
 pub mod Testing
 pub mod Counting
 pub mod Maps
@@ -8,3 +8,4 @@ pub mod Subsets
 pub mod Elements
 pub mod Faults
 pub mod Powers
+pub mod Copying

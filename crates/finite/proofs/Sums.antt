@@ -5,7 +5,6 @@ use mathlib.Core.Bool.{Bool, true, false, _&&_}
 use Prim.Native.Nat.{ℕ, zero, suc, _+_, _/_, _%_, _^_, _<_, _*_}
 use native.Mathlib.Nat.{zero-div, add-zero, add-suc, eq-or-lt-of-le, not-suc-le-zero, le-of-suc-le-suc, zero-mul, suc-mul}
 use native.Mathlib.Omega.{arith}
-use native.Mathlib.Numerals.{add-one}
 use lib.Pow.{pow-pos}
 use lib.Bits.{bitXor, xor-zero-r, xor-lt}
 use Rattle.finite.specs.Tests.{pick}
@@ -80,15 +79,6 @@ pub xorBelow-first : (n : ℕ) (f : ℕ → ℕ) → xorBelow (suc n) f ≡ bitX
 unfolding xorBelow
 xorBelow-first zero f = sym (xor-zero-r (f 0))
 xorBelow-first (suc n) f = ap (λ (x : ℕ). bitXor x (f (suc n))) (xorBelow-first n f) ∙ xor-assoc (f 0) (xorBelow n (λ i. f (suc i))) (f (suc n))
-
--- one more number, as code counts
-pub xorBelow-more : (n : ℕ) (f : ℕ → ℕ) → xorBelow (n + 1) f ≡ bitXor (xorBelow n f) (f n)
-unfolding xorBelow
-xorBelow-more n f = rw add-one refl
-
--- a turn of a loop that sums: with the number x, and without
-pub xorBelow-step : (n : ℕ) (f : ℕ → ℕ) (s s′ x : ℕ) → s ≡ xorBelow n f → s′ ≡ bitXor s x → f n ≡ x → s′ ≡ xorBelow (n + 1) f
-xorBelow-step n f s s′ x a b h = rw (xorBelow-more, h, ← a) b
 
 -- ---- a number that counts where a test passes
 

@@ -3,9 +3,9 @@
 use mathlib.Core.Path.{_≡_, refl, sym, ap, ap₂, _∙_}
 use mathlib.Core.Logic.{_⊎_, inl, inr, ⊎-elim}
 use mathlib.Core.Bool.{Bool, true, false, _&&_, _||_, true≢false, false≢true, not}
-use mathlib.Core.List.{List, [], _∷_, _++_, append-assoc}
+use mathlib.Core.List.{List, [], _∷_, _++_, append-assoc, append-nil}
 use Prim.Native.Nat.{ℕ, zero, suc, _+_, _≤_, _<_}
-use native.Mathlib.Nat.{le-of-suc-le-suc, not-suc-le-zero, le-refl, le-step, eq-or-lt-of-le}
+use native.Mathlib.Nat.{add-zero, le-of-suc-le-suc, not-suc-le-zero, le-refl, le-step, eq-or-lt-of-le}
 use native.Mathlib.Numerals.{add-one}
 use native.Mathlib.Omega.{arith}
 use lib.Dec.{eqb}
@@ -285,6 +285,14 @@ pub tabulate-last : {A : Type 0} (n : ℕ) (g : ℕ → A) → tabulate (suc n) 
 unfolding tabulate
 tabulate-last zero g = refl
 tabulate-last (suc n) g = ap (λ (l : List _). g 0 ∷ l) (tabulate-last n (λ i. g (suc i)))
+
+-- in two parts
+pub tabulate-add : {A : Type 0} (n k : ℕ) (g : ℕ → A) → tabulate (n + k) g ≡ tabulate n g ++ tabulate k (λ i. g (n + i))
+tabulate-add n zero g = unfold tabulate in rw add-zero (sym (append-nil (tabulate n g)))
+tabulate-add n (suc k) g =
+    let e : n + suc k ≡ suc (n + k) = omega arith in
+    rw e (tabulate-last (n + k) g ∙ ap (λ (l : List _). l ++ (g (n + k) ∷ [])) (tabulate-add n k g)
+    ∙ append-assoc (tabulate n g) _ (g (n + k) ∷ []) ∙ ap (λ (l : List _). tabulate n g ++ l) (sym (tabulate-last k (λ i. g (n + i)))))
 
 -- a store at the next place
 pub tabulate-more : (n : ℕ) (g : ℕ → ℕ) (d : List ℕ) → n < length d

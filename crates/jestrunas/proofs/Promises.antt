@@ -16,10 +16,10 @@ use Rattle.anf.specs.Points.{Points, IgnoresPoint}
 use Rattle.anf.specs.Transform.{transformReason, transformAfter}
 use Rattle.anf.specs.Bench as bench-anf
 use Rattle.anf.specs.Tables.{entry, Permutation}
-use Rattle.anf.proofs.Transform.{subsetSum-twice}
+use Rattle.anf.proofs.SubsetSums.{subsetSum-twice}
 use Rattle.anf.proofs.Terms.{unique-terms, names-exactly}
 use Rattle.anf.proofs.Degree.{shares-bound}
-use Rattle.anf.proofs.Answers.{transform-back}
+use Rattle.anf.proofs.Answers as answers
 use Rattle.anf.proofs.Bench as anf-bench
 use Rattle.design.specs.Limits.{broken, checked, headAnswer}
 use Rattle.records.specs.Bytes.{Bytes}
@@ -63,11 +63,11 @@ use Rattle.jestrunas.proofs.Produced.{produced-verdict}
 pub transform : (n : ℕ) (f : ℕ → ℕ) (u : ℕ) → u < 2 ^ n → subsetSum n (subsetSum n f) u ≡ f u
 transform = subsetSum-twice
 
--- So the two operations undo each other: what one writes for an accepted input, the other accepts, and writes the input back.
-pub passage-back : (m : ℕ) (input output back : List ℕ) → transformReason m input (length output) ≡ 0 → 2 ^ m ≤ length back
+-- So the operation applied twice returns the input: what it writes for an accepted input it accepts, and writes the input back.
+pub transform-twice : (m : ℕ) (input output back : List ℕ) → transformReason m input (length output) ≡ 0 → 2 ^ m ≤ length back
     → (transformReason m (take (2 ^ m) (transformAfter m input output)) (length back) ≡ 0)
     × (transformAfter m (take (2 ^ m) (transformAfter m input output)) back ≡ input ++ drop (2 ^ m) back)
-passage-back = transform-back
+transform-twice = answers.transform-twice
 
 -- 2. Unique lists. Rising lists of terms with equal values at every point are equal.
 pub unique-lists : (n : ℕ) (a b : List ℕ) → TermList n a → TermList n b → ((x : ℕ) → x < 2 ^ n → valueAt a x ≡ valueAt b x) → a ≡ b
@@ -240,7 +240,7 @@ output-enough = producer-room.room-enough
 -- ---- 10. Bench. Every starred design of the papers answers as it must; and what a component reads is met as often as rows say.
 
 pub record Bench : Type 0 where
-  pub passages : bench-anf.AllPass bench-anf.rows
+  pub transforms : bench-anf.AllPass bench-anf.rows
   pub heads : map (λ r. headAnswer (checked (r .m) (r .s) 1)) bench-design.headRows ≡ map (λ r. r .answer) bench-design.headRows
   pub encoded : encode bench-design.designD ≡ bench-design.fileD
   pub readings : map (λ r. reading (r .file)) bench-design.rows ≡ map (λ r. r .answer) bench-design.rows
@@ -254,7 +254,7 @@ pub record Bench : Type 0 where
 
 pub bench : Bench
 bench = record {
-  passages = anf-bench.bench;
+  transforms = anf-bench.bench;
   heads = design-bench.bench-heads;
   encoded = design-bench.D-encoded;
   readings = design-bench.bench;

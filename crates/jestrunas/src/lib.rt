@@ -68,20 +68,11 @@ pub extern "C" fn jestrunas_produce(m: usize, s: usize, table: &[u8], output: &m
     producer::produce(m, s, table, output)
 }
 
-// The coefficient words of a table.
+// The coefficient words of a table, or the table of coefficient words.
 #[no_mangle]
-pub extern "C" fn jestrunas_to_coefficients(m: usize, input: &[u8], output: &mut [u8]) -> usize
+pub extern "C" fn jestrunas_transform(m: usize, input: &[u8], output: &mut [u8]) -> usize
     ensures { λ r. ⌜ r ≡ transformReason m (now (input .entry)) (length (now (output .entry))) ⌝ }
     ensures { λ _. ⌜ now (output .exit) ≡ transformAfter m (now (input .entry)) (now (output .entry)) ⌝ }
 {
-    anf::to_coefficients(m, input, output)
-}
-
-// The table of coefficient words.
-#[no_mangle]
-pub extern "C" fn jestrunas_to_table(m: usize, input: &[u8], output: &mut [u8]) -> usize
-    ensures { λ r. ⌜ r ≡ transformReason m (now (input .entry)) (length (now (output .entry))) ⌝ }
-    ensures { λ _. ⌜ now (output .exit) ≡ transformAfter m (now (input .entry)) (now (output .entry)) ⌝ }
-{
-    anf::to_table(m, input, output)
+    anf::transform(m, input, output)
 }

@@ -3,7 +3,7 @@ mod file; // file.rt: the file's length, and writing it
 
 use anf::entries_below;
 use anf::repeats;
-use anf::to_coefficients;
+use anf::transform;
 use anf::words_degree;
 use design::Checked;
 use design::GREATEST_POINTS;
@@ -68,7 +68,7 @@ fn produce_permutation(m: usize, s: usize, table: &[u8], output: &mut [u8]) -> P
     ensures { λ _. ⌜ now (output .exit) ≡ outputAfter m s (now (table .entry)) (now (output .entry)) ⌝ }
 {
     let mut words = [0u8; GREATEST_POINTS];
-    to_coefficients(m, table, &mut words);
+    transform(m, table, &mut words);
     let degree = words_degree(&words[0..table.len()]);
     if s <= degree {
         return no_file(16);

@@ -1,13 +1,14 @@
 -- Laws of writing over a part of a list: two runs that follow one another are one run, so that the leaves of writing join into records and a file.
 -- And how long records are, and lists one behind the other.
-use Prim.Native.Nat.{ℕ, zero, suc, _+_, _≤_, _<_}
-use mathlib.Core.Path.{_≡_, refl, sym, ap, _∙_}
+use Prim.Native.Nat.{ℕ, zero, suc, _+_, _-_, _≤_, _<_}
+use mathlib.Core.Path.{_≡_, refl, sym, ap, ap₂, _∙_}
 use mathlib.Core.List.{List, [], _∷_, _++_, map, append-assoc, append-nil}
 use native.Mathlib.Omega.{arith}
 use native.Mathlib.Numerals.{add-one, towards-suc}
 use native.Mathlib.Nat.{zero-add}
-use lib.ListN.{length, getD, set, take, drop, length-append, length-set}
-use lib.Seq.{sets, sets-eq, paste, paste-zero, paste-suc, take-length, length-take-le, drop-drop, take-at, drop-at}
+use lib.ListN.{length, getD, set, take, drop, length-append, length-drop, length-set, drop-of-length-le}
+use borrow.Rule.Slice.PartMut.{putMid}
+use lib.Seq.{sets, sets-eq, paste-zero, take-all, take-length, length-take-le, drop-drop, take-at, drop-at}
 use Rattle.finite.specs.Tests.{total}
 use Rattle.records.specs.inside.Overwriting.{overwrite}
 use Rattle.records.specs.Records.{join, recordHead, aRecord}
@@ -33,29 +34,15 @@ module _ (o : List ℕ) (at : ℕ) (h : at + 4 ≤ length o) (a b : ℕ) where
     pub four-put : (d : ℕ) → set (set (set (set o at a) (at + 1) b) (at + 2) c) (at + 3) d ≡ overwrite o at (a ∷ b ∷ c ∷ d ∷ [])
     four-put d = simp towards-suc (overwrite-sets (a ∷ b ∷ c ∷ d ∷ []) o at (omega arith))
 
--- a whole copy
-overwrite-paste : (l : List ℕ) (at : ℕ) (b : List ℕ) → paste l at b (length b) ≡ overwrite l at b
+-- bytes copied over the front of all that follows `at`
+pub part-copied : (l b part : List ℕ) (at : ℕ) → part ≡ b ++ drop (length b) (take (length l - at) (drop at l)) → putMid at (length l - at) l part ≡ overwrite l at b
 unfolding overwrite
-overwrite-paste l at b = rw (take-length b) refl
-
--- a turn of the loop that copies
-paste-more : (d : List ℕ) (at : ℕ) (s : List ℕ) (j : ℕ) (o : List ℕ) → o ≡ paste d at s j → at + j < length d → j < length s → set o (at + j) (getD s j 0) ≡ paste d at s (j + 1)
-paste-more d at s j o e h l = rw (add-one, e) (paste-suc d at s j 0 h l)
-
--- ---- the loop of `put_bytes`: o is the output with the first i bytes of b copied over l from `at` on
-
-pub copied-none : (l b : List ℕ) (at : ℕ) → l ≡ paste l at b 0
-copied-none l b at = paste-zero l at b
-
-module _ (l b o : List ℕ) (at i : ℕ) where
-  pub copied-length : (x : ℕ) → length o ≡ length l → length (set o (at + i) x) ≡ length l
-  copied-length x e = length-set o (at + i) x ∙ e
-
-  pub copied-more : at + length b ≤ length l → i < length b → o ≡ paste l at b i → set o (at + i) (getD b i 0) ≡ paste l at b (i + 1)
-  copied-more h k e = paste-more l at b i o e (omega arith) k
-
-  pub copied-all : i ≤ length b → length b ≤ i → o ≡ paste l at b i → o ≡ overwrite l at b
-  copied-all h k e = let q : i ≡ length b = omega arith in rw q at e ∙ overwrite-paste l at b
+part-copied l b part at e =
+    ap₂ (λ (x y : List ℕ). take at l ++ (x ++ y))
+    (e ∙ ap (λ (x : List ℕ). b ++ drop (length b) x) (take-all (length l - at) (drop at l) (omega (arith, length-drop at l))) ∙ ap (λ (x : List ℕ). b ++ x) (drop-drop (length b) at l))
+    (drop-of-length-le (drop at l) {i = length l - at} (omega (arith, length-drop at l)))
+    ∙ ap (λ (x : List ℕ). take at l ++ x) (append-nil (b ++ drop (at + length b) l))
+    ∙ sym (append-assoc (take at l) b (drop (at + length b) l))
 
 overwrite-is : (l : List ℕ) (at : ℕ) (b : List ℕ) → overwrite l at b ≡ take at l ++ b ++ drop (at + length b) l
 unfolding overwrite

@@ -1,5 +1,6 @@
 // Writing: a record's head, a run of bytes and a term, a record, a list and the end of a file; and the answer where no file is written.
 use super::Produced;
+use finite::copy;
 ghost use mathlib.Core.Path.{_≡_};
 ghost use mathlib.Core.List.{[], _∷_};
 ghost use Prim.Native.Nat.{_+_, _*_, _≤_, _<_};
@@ -31,11 +32,7 @@ fn put_bytes(out: &mut [u8], at: usize, bytes: &[u8])
     requires { ⌜ at + length (now bytes) ≤ length (now out) ⌝ }
     ensures { λ _. ⌜ now (out .exit) ≡ overwrite (now (out .entry)) at (now (bytes .entry)) ⌝ }
 {
-    let mut i = 0;
-    while i < bytes.len() {
-        out[at + i] = bytes[i];
-        i += 1;
-    }
+    copy(bytes, &mut out[at..]);
 }
 
 // Writes a term.

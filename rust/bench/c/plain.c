@@ -223,29 +223,22 @@ jestrunas_run_t NAME(run)(const uint8_t *file, size_t file_len, jestrunas_shares
     return a;
 }
 
-static void butterfly(uint8_t *t, size_t n) {
-    for (size_t bit = 1; bit < n; bit *= 2)
-        for (size_t x = 0; x < n; x++)
-            if (x & bit) t[x] ^= t[x ^ bit];
+/* For each variable, the entries where it is 0 are added to those where it is 1. */
+static void transform_in_place(uint8_t *t, size_t n) {
+    for (size_t half = 1; half < n; half *= 2)
+        for (size_t at = 0; at < n; at += 2 * half)
+            for (size_t i = 0; i < half; i++) t[at + half + i] ^= t[at + i];
 }
 
-static size_t passage(size_t m, const uint8_t *in, size_t in_len, uint8_t *out, size_t out_len) {
+size_t NAME(transform)(size_t m, const uint8_t *in, size_t in_len, uint8_t *out, size_t out_len) {
     if (m < 1 || m > 6) return 4;
     size_t n = (size_t)1 << m;
     if (in_len != n) return 3;
     if (!all_below(in, n, n)) return 5;
     if (out_len < n) return 17;
     memcpy(out, in, n);
-    butterfly(out, n);
+    transform_in_place(out, n);
     return 0;
-}
-
-size_t NAME(to_coefficients)(size_t m, const uint8_t *in, size_t in_len, uint8_t *out, size_t out_len) {
-    return passage(m, in, in_len, out, out_len);
-}
-
-size_t NAME(to_table)(size_t m, const uint8_t *in, size_t in_len, uint8_t *out, size_t out_len) {
-    return passage(m, in, in_len, out, out_len);
 }
 
 static void put16(uint8_t *p, size_t x) {
@@ -293,7 +286,7 @@ jestrunas_produced_t NAME(produce)(size_t m, size_t s, const uint8_t *table, siz
     if (!all_below(table, size, size)) { a.reason = 5; return a; }
     if (repeats(table, size)) { a.reason = 8; return a; }
     memcpy(words, table, size);
-    butterfly(words, size);
+    transform_in_place(words, size);
     size_t length = 11 + 2 * (4 + size) + 4 * m * s;
     for (size_t u = 0; u < size; u++) {
         size_t products = 4;

@@ -15,7 +15,7 @@ type AskForecast = unsafe extern "C" fn(*const u8, usize) -> Forecast;
 type Judge = unsafe extern "C" fn(*const u8, usize, *mut u8, usize) -> Judged;
 type RunChain = unsafe extern "C" fn(*const u8, usize, Shares) -> Run;
 type Produce = unsafe extern "C" fn(usize, usize, *const u8, usize, *mut u8, usize) -> Produced;
-type Passage = unsafe extern "C" fn(usize, *const u8, usize, *mut u8, usize) -> usize;
+type Transform = unsafe extern "C" fn(usize, *const u8, usize, *mut u8, usize) -> usize;
 
 /// One library of operations.
 struct Operations {
@@ -25,12 +25,12 @@ struct Operations {
     judge: Judge,
     run: RunChain,
     produce: Produce,
-    to_coefficients: Passage,
+    transform: Transform,
 }
 
 macro_rules! operations {
     ($module:ident, $name:literal, $read:literal, $forecast:literal, $judge:literal, $run:literal, $produce:literal,
-     $to_coefficients:literal) => {
+     $transform:literal) => {
         mod $module {
             use super::*;
             extern "C" {
@@ -51,10 +51,10 @@ macro_rules! operations {
                     output: *mut u8,
                     output_len: usize,
                 ) -> Produced;
-                #[link_name = $to_coefficients]
-                fn to_coefficients(m: usize, input: *const u8, input_len: usize, output: *mut u8, output_len: usize) -> usize;
+                #[link_name = $transform]
+                fn transform(m: usize, input: *const u8, input_len: usize, output: *mut u8, output_len: usize) -> usize;
             }
-            pub const OPERATIONS: Operations = Operations { name: $name, read, forecast, judge, run, produce, to_coefficients };
+            pub const OPERATIONS: Operations = Operations { name: $name, read, forecast, judge, run, produce, transform };
         }
     };
 }
@@ -67,20 +67,11 @@ operations!(
     "jestrunas_judge",
     "jestrunas_run",
     "jestrunas_produce",
-    "jestrunas_to_coefficients"
+    "jestrunas_transform"
 );
-operations!(gcc, "gcc native", "gcc_read", "gcc_forecast", "gcc_judge", "gcc_run", "gcc_produce", "gcc_to_coefficients");
-operations!(
-    avx2,
-    "gcc x86-64-v3",
-    "avx2_read",
-    "avx2_forecast",
-    "avx2_judge",
-    "avx2_run",
-    "avx2_produce",
-    "avx2_to_coefficients"
-);
-operations!(any, "gcc x86-64", "any_read", "any_forecast", "any_judge", "any_run", "any_produce", "any_to_coefficients");
+operations!(gcc, "gcc native", "gcc_read", "gcc_forecast", "gcc_judge", "gcc_run", "gcc_produce", "gcc_transform");
+operations!(avx2, "gcc x86-64-v3", "avx2_read", "avx2_forecast", "avx2_judge", "avx2_run", "avx2_produce", "avx2_transform");
+operations!(any, "gcc x86-64", "any_read", "any_forecast", "any_judge", "any_run", "any_produce", "any_transform");
 #[cfg(clang)]
 operations!(
     clang,
@@ -90,7 +81,7 @@ operations!(
     "clang_judge",
     "clang_run",
     "clang_produce",
-    "clang_to_coefficients"
+    "clang_transform"
 );
 
 /// The processor time of this thread so far, which other programs on the machine do not add to.
@@ -109,8 +100,8 @@ fn now() -> Duration {
     Duration::new(time.seconds as u64, time.nanoseconds as u32)
 }
 
-/// The best time of one call, of each library, over some rounds in turn.
-fn best(rounds: usize, all: &[Operations], mut call: impl FnMut(&Operations)) -> Vec<Duration> {
+/// The best time of some calls, of each library, over some rounds in turn; and how many calls these are.
+fn best(rounds: usize, all: &[Operations], mut call: impl FnMut(&Operations)) -> (Vec<Duration>, u32) {
     // as many calls a round as take some milliseconds
     let mut calls = 1;
     loop {
@@ -129,14 +120,14 @@ fn best(rounds: usize, all: &[Operations], mut call: impl FnMut(&Operations)) ->
             *least = (*least).min(now() - start);
         }
     }
-    least.iter().map(|time| *time / calls).collect()
+    (least, calls)
 }
 
 fn row(what: &str, operation: &str, all: &[Operations], rounds: usize, call: impl FnMut(&Operations)) {
-    let times = best(rounds, all, call);
+    let (times, calls) = best(rounds, all, call);
     let ratios: Vec<String> =
         times[1..].iter().map(|time| format!("{:.2}", times[0].as_secs_f64() / time.as_secs_f64())).collect();
-    println!("| {what} | {operation} | {:.3?} | {} |", times[0], ratios.join(" | "));
+    println!("| {what} | {operation} | {:.3?} | {} |", times[0] / calls, ratios.join(" | "));
 }
 
 fn main() {
@@ -149,7 +140,7 @@ fn main() {
     #[cfg(clang)]
     all.push(clang::OPERATIONS);
     let names: Vec<String> = all[1..].iter().map(|operations| format!("library / {}", operations.name)).collect();
-    println!("| design | operation | library | {} |", names.join(" | "));
+    println!("| input | operation | library | {} |", names.join(" | "));
     println!("|---|---|---|{}", "---|".repeat(names.len()));
 
     let identity: &[u8] = &[0, 1];
@@ -195,11 +186,24 @@ fn main() {
                 assert_eq!(black_box(answer).length, file.len());
             });
             assert_eq!(output[..file.len()], file);
-            row(&what, "transform", &all, rounds, |o| {
-                let answer =
-                    unsafe { (o.to_coefficients)(design.m, table.as_ptr(), table.len(), output.as_mut_ptr(), output.len()) };
-                assert_eq!(black_box(answer), 0);
-            });
         }
+    }
+    for m in 1..=6 {
+        let entries = 1 << m;
+        // RC6's permutation
+        let table: Vec<u8> = (0..entries).map(|x| (x * (2 * x + 1) % entries) as u8).collect();
+        let mut due = vec![0; entries];
+        assert_eq!(reference::transform(m, &table, &mut due), 0);
+        let call = |o: &Operations, output: &mut [u8]| unsafe {
+            (o.transform)(m, table.as_ptr(), table.len(), output.as_mut_ptr(), output.len())
+        };
+        for operations in &all {
+            output.fill(0);
+            assert_eq!(call(operations, &mut output), 0, "width {m}, {}", operations.name);
+            assert_eq!(output[..entries], due, "width {m}, {}", operations.name);
+        }
+        row(&format!("width {m} ({entries} bytes)"), "transform", &all, rounds, |o| {
+            assert_eq!(black_box(call(o, &mut output)), 0);
+        });
     }
 }

@@ -141,7 +141,8 @@ struct Comparison {
     ignored: Ignored,
     runs: Counts,
     produced: Counts,
-    passages: Counts,
+    transforms: Counts,
+    twice: usize,
 }
 
 impl Comparison {
@@ -164,7 +165,8 @@ impl Comparison {
             ignored: Ignored::default(),
             runs: Counts::default(),
             produced: Counts::default(),
-            passages: Counts::default(),
+            transforms: Counts::default(),
+            twice: 0,
         }
     }
 
@@ -430,54 +432,65 @@ impl Comparison {
         self.compare_produce(m, s, &table, length)
     }
 
-    /// Both passages, with numbers, words and outputs that are mostly good, and there and back.
-    fn passages(&mut self) {
+    /// The transform with numbers, inputs and outputs that are mostly good; an output may be short beside any other fault, so that the
+    /// order of the refusals shows.
+    fn transform(&mut self) {
         let random = &mut self.random;
         let mut m = 1 + random.below(6);
-        let mut words: Vec<u8> = (0..1 << m).map(|_| random.below(1 << m) as u8).collect();
-        let mut length = words.len() + random.below(3) * random.below(9);
+        let mut input: Vec<u8> = (0..1 << m).map(|_| random.below(1 << m) as u8).collect();
+        let length = if random.once_in(8) { random.below(input.len()) } else { input.len() + random.below(3) * random.below(9) };
         match random.below(12) {
             0 => m = random.pick(&[0, 7, 8, 9, 64, 255, 256, 1 << 32, usize::MAX, m + 256]),
             1 => m = random.below(9),
-            2 => words.truncate(random.below(words.len())),
+            2 => input.truncate(random.below(input.len())),
             3 => {
                 let n = 1 + random.below(70);
-                words.extend(random.bytes(n));
+                input.extend(random.bytes(n));
             }
             4 | 5 => {
-                let i = random.below(words.len());
-                words[i] = random.byte();
+                let i = random.below(input.len());
+                input[i] = random.byte();
             }
-            6 => length = random.below(words.len()),
             _ => {}
         }
-        self.compare_passages(m, &words, length);
+        self.compare_transform(m, &input, length);
     }
 
-    fn compare_passages(&mut self, m: usize, words: &[u8], length: usize) {
+    fn compare_transform(&mut self, m: usize, input: &[u8], length: usize) {
         let before = self.random.bytes(length);
-        for back in [false, true] {
-            self.lend(&before);
-            self.lend_file(words);
-            let mut after = before.clone();
-            let (answer, due) = if back {
-                (native::to_table(m, self.file.slice(), self.lent.slice()), reference::to_table(m, words, &mut after))
-            } else {
-                (
-                    native::to_coefficients(m, self.file.slice(), self.lent.slice()),
-                    reference::to_coefficients(m, words, &mut after),
-                )
-            };
-            let name = if back { "to table" } else { "to coefficients" };
-            if answer != due {
-                self.differs(&format!("{name} {m}, output of {length}"), words, answer, due);
-            }
-            if !self.lent.is(&after) || !self.file.is(words) {
-                let now = self.lent.slice().to_vec();
-                self.differs(&format!("{name} {m}, bytes of an output of {length}"), words, hex(&now), hex(&after));
-            }
-            self.passages.add(due);
+        self.lend(&before);
+        self.lend_file(input);
+        let answer = native::transform(m, self.file.slice(), self.lent.slice());
+        let mut after = before;
+        let due = reference::transform(m, input, &mut after);
+        if answer != due {
+            self.differs(&format!("transform {m}, output of {length}"), input, answer, due);
         }
+        if !self.lent.is(&after) || !self.file.is(input) {
+            let now = self.lent.slice().to_vec();
+            self.differs(&format!("transform {m}, bytes of an output of {length}"), input, hex(&now), hex(&after));
+        }
+        self.transforms.add(due);
+        if (answer, due) == (0, 0) {
+            let written = self.lent.slice()[..input.len()].to_vec();
+            self.transform_again(m, &written, input);
+        }
+    }
+
+    /// What the library wrote of an input, transformed by the library again: the input, and the bytes past it are untouched.
+    fn transform_again(&mut self, m: usize, written: &[u8], input: &[u8]) {
+        let length = input.len() + self.random.below(9);
+        let mut after = self.random.bytes(length);
+        self.lend(&after);
+        self.lend_file(written);
+        let answer = native::transform(m, self.file.slice(), self.lent.slice());
+        after[..input.len()].copy_from_slice(input);
+        if answer != 0 || !self.lent.is(&after) || !self.file.is(written) {
+            let now = self.lent.slice().to_vec();
+            self.differs(&format!("transform {m} twice, output of {length}"), input, (answer, hex(&now)), (0, hex(&after)));
+        }
+        self.transforms.add(0);
+        self.twice += 1;
     }
 
     /// Each operation with what is lent beside the pages that nobody may touch, on every side, in every length near the one due.
@@ -501,10 +514,13 @@ impl Comparison {
                 self.compare_produce(3, 3, &table[..length], PRODUCED_MAX);
             }
             for m in 1..=6 {
-                let words: Vec<u8> = (0..1 << m).rev().collect();
-                for length in 0..words.len() + 3 {
-                    self.compare_passages(m, &words, length);
-                    self.compare_passages(m, &words[..length.min(words.len())], words.len());
+                let input: Vec<u8> = (0..1 << m).rev().collect();
+                let mut large = input.clone();
+                large[0] = 1 << m;
+                for length in 0..input.len() + 3 {
+                    self.compare_transform(m, &input, length);
+                    self.compare_transform(m, &large, length);
+                    self.compare_transform(m, &input[..length.min(input.len())], input.len());
                 }
             }
         }
@@ -651,7 +667,7 @@ impl Comparison {
                 }
                 self.compare_file(&file);
             }
-            self.passages();
+            self.transform();
             if self.random.once_in(2) {
                 self.produce();
             }
@@ -696,7 +712,8 @@ fn main() {
     complete &= c.ignored.say();
     complete &= c.runs.say("run", &[0, 1, 2, 3, 4, 5, 6, 7, 15]);
     complete &= c.produced.say("produce", &[0, 3, 4, 5, 8, 16, 17]);
-    complete &= c.passages.say("passages", &[0, 3, 4, 5, 17]);
+    complete &= c.transforms.say("transform", &[0, 3, 4, 5, 17]);
+    println!("transform: {} outputs of the library transformed again", c.twice);
     println!("assurance: {} accepted designs run on every sharing of every secret", c.assured);
     println!(
         "seed {seed}: {} files ({} readable), {} differences, {:.1} s",

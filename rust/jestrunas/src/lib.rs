@@ -258,14 +258,11 @@ pub fn produce_in(m: usize, s: usize, table: &[u8], output: &mut [u8]) -> Result
     reason(answer.reason).map_or(Ok(answer.length), Err)
 }
 
-/// The coefficient words of a table's algebraic normal form, in the first 2^m bytes of the output.
-pub fn to_coefficients(m: usize, table: &[u8], output: &mut [u8]) -> Result<(), Reason> {
-    done(native::to_coefficients(m, table, output))
-}
-
-/// The table that coefficient words stand for, in the first 2^m bytes of the output.
-pub fn to_table(m: usize, words: &[u8], output: &mut [u8]) -> Result<(), Reason> {
-    done(native::to_table(m, words, output))
+/// The transform between a table and the coefficient words of its algebraic normal form: of a table it writes the coefficient words, of
+/// coefficient words the table, to the first 2^m bytes of the output. What is written, transformed again, gives the input. The bytes past it
+/// are untouched, and a refusal leaves the whole output untouched.
+pub fn transform(m: usize, input: &[u8], output: &mut [u8]) -> Result<(), Reason> {
+    done(native::transform(m, input, output))
 }
 
 #[cfg(test)]
@@ -338,16 +335,16 @@ mod tests {
         assert_eq!(forecast(&[]), Err(Reason::CutShort));
         assert_eq!(produce(4, 2, &[]), Err(Reason::LimitBroken));
         assert_eq!(run(&[], [0; 5]), Err(Reason::CutShort));
-        assert_eq!(to_table(1, &[0, 1], &mut [0]), Err(Reason::OutputTooShort));
+        assert_eq!(transform(1, &[0, 1], &mut [0]), Err(Reason::OutputTooShort));
     }
 
     #[test]
     fn coefficients_and_back() {
         let table = [0, 1, 2, 3, 4, 5, 7, 6];
-        let (mut words, mut again) = ([9; 8], [9; 8]);
-        to_coefficients(3, &table, &mut words).unwrap();
-        assert_eq!(words, [0, 1, 2, 0, 4, 0, 1, 0]);
-        to_table(3, &words, &mut again).unwrap();
-        assert_eq!(again, table);
+        let (mut words, mut again) = ([9; 9], [9; 9]);
+        transform(3, &table, &mut words).unwrap();
+        assert_eq!(words, [0, 1, 2, 0, 4, 0, 1, 0, 9]);
+        transform(3, &words[..8], &mut again).unwrap();
+        assert_eq!(again, [0, 1, 2, 3, 4, 5, 7, 6, 9]);
     }
 }

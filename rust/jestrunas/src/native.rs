@@ -52,8 +52,7 @@ extern "C" {
     fn jestrunas_judge(file: *const u8, file_len: usize, workspace: *mut u8, workspace_len: usize) -> Judged;
     fn jestrunas_run(file: *const u8, file_len: usize, shares: Shares) -> Run;
     fn jestrunas_produce(m: usize, s: usize, table: *const u8, table_len: usize, output: *mut u8, output_len: usize) -> Produced;
-    fn jestrunas_to_coefficients(m: usize, input: *const u8, input_len: usize, output: *mut u8, output_len: usize) -> usize;
-    fn jestrunas_to_table(m: usize, input: *const u8, input_len: usize, output: *mut u8, output_len: usize) -> usize;
+    fn jestrunas_transform(m: usize, input: *const u8, input_len: usize, output: *mut u8, output_len: usize) -> usize;
 }
 
 pub fn read(file: &[u8]) -> Verdict {
@@ -76,10 +75,6 @@ pub fn produce(m: usize, s: usize, table: &[u8], output: &mut [u8]) -> Produced 
     unsafe { jestrunas_produce(m, s, table.as_ptr(), table.len(), output.as_mut_ptr(), output.len()) }
 }
 
-pub fn to_coefficients(m: usize, input: &[u8], output: &mut [u8]) -> usize {
-    unsafe { jestrunas_to_coefficients(m, input.as_ptr(), input.len(), output.as_mut_ptr(), output.len()) }
-}
-
-pub fn to_table(m: usize, input: &[u8], output: &mut [u8]) -> usize {
-    unsafe { jestrunas_to_table(m, input.as_ptr(), input.len(), output.as_mut_ptr(), output.len()) }
+pub fn transform(m: usize, input: &[u8], output: &mut [u8]) -> usize {
+    unsafe { jestrunas_transform(m, input.as_ptr(), input.len(), output.as_mut_ptr(), output.len()) }
 }

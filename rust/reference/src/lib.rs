@@ -4,14 +4,14 @@
 
 mod design;
 mod judge;
-mod passage;
 mod produce;
 pub mod samples;
+mod transform;
 
 pub use design::{encode, read, Design, Fault, Product, Shares, Stage};
 pub use judge::{forecast, judge, run, verdict};
-pub use passage::{to_coefficients, to_table};
 pub use produce::{direct_sharing, produce};
+pub use transform::transform;
 
 /// A verdict: reason, place, component, and the trials that it took.
 pub type Answer = [usize; 4];

@@ -1,7 +1,7 @@
 //! The direct sharing.
 
 use crate::design::{encode, Design, Product, Shares, Stage};
-use crate::passage::coefficient;
+use crate::transform::coefficient;
 use crate::{repeats, within_limits};
 
 /// The component (from 0) of a product whose chosen shares (from 0) are these.

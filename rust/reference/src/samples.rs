@@ -1,8 +1,8 @@
 //! Designs that the tests, the sample files and the benchmark share.
 
 use crate::design::{Design, Product, Stage};
-use crate::passage::coefficient;
 use crate::produce::direct_sharing;
+use crate::transform::coefficient;
 
 /// PRESENT's S-box is F after G, both quadratic (Poschmann, Moradi, Khoo, Lim, Wang and Ling, "Side-channel resistant
 /// crypto for less than 2,300 GE").

@@ -4,7 +4,7 @@ use reference::samples::{
     bits_apart, chain, cubic, d, full, keccak_row, leaking, linear, one_bit, six_bits, twenty_share_bits, PRESENT, PRESENT_F,
     PRESENT_G,
 };
-use reference::{encode, forecast, judge, produce, read, repeats, run, to_coefficients, to_table, Answer, Product};
+use reference::{encode, forecast, judge, produce, read, repeats, run, transform, Answer, Product};
 
 const D: [u8; 47] = [
     3, 0, 1, 0, 1, 3, 1, 2, 0, 2, 0, 0, 1, 2, 0, 2, 0, 0, 1, 4, 0, 3, 0, 2, 0, 0, 0, 4, 0, 3, 0, 4, 0, 0, 0, 4, 0, 3, 0, 1, 0, 0,
@@ -154,9 +154,9 @@ fn producing() {
 fn coefficients() {
     let table = [0, 1, 2, 3, 4, 5, 7, 6];
     let (mut words, mut again) = ([0; 8], [0; 8]);
-    assert_eq!(to_coefficients(3, &table, &mut words), 0);
+    assert_eq!(transform(3, &table, &mut words), 0);
     assert_eq!(words, [0, 1, 2, 0, 4, 0, 1, 0]);
-    assert_eq!(to_table(3, &words, &mut again), 0);
+    assert_eq!(transform(3, &words, &mut again), 0);
     assert_eq!(again, table);
 }
 

@@ -5,11 +5,11 @@ use Rattle.producer.proofs.Leaving.{points-within, words-within, degree
 use Rattle.producer.proofs.produce_permutation.Statement.{statement}
 use Rattle.producer.proofs.produce_permutation.Tie as tie
 
-slice-aggregate-to-coefficients : tie.Need-slice-aggregate-to-coefficients
-slice-aggregate-to-coefficients c = search needs
+slice-aggregate-transform : tie.Need-slice-aggregate-transform
+slice-aggregate-transform c = search needs
 
-to-coefficients-requires : tie.Need-to-coefficients-requires
-to-coefficients-requires c κs = search needs
+transform-requires : tie.Need-transform-requires
+transform-requires c κs = search needs
 
 sub-words-degree : tie.Need-sub-words-degree
 sub-words-degree c = search needs
@@ -45,8 +45,8 @@ pub produce-permutation-spec : {M : Type 1} → statement M
 produce-permutation-spec =
     tie.close
     (tie.spec
-    slice-aggregate-to-coefficients
-    to-coefficients-requires
+    slice-aggregate-transform
+    transform-requires
     sub-words-degree
     part-words-degree-start
     part-words-degree-end

@@ -50,7 +50,7 @@ subsetSum-top n i f h =
     (xorBelow-ext (2 ^ n) (λ j. pick (subset (2 ^ n + j) (2 ^ n + i)) (f (2 ^ n + j)) 0) (λ j. pick (subset j i) (f (2 ^ n + j)) 0)
     (λ j l. rw (subset-top-top n j i l h)))
 
--- the two passages undo each other
+-- taken twice it is the table again
 pub subsetSum-twice : (n : ℕ) (f : ℕ → ℕ) (u : ℕ) → u < 2 ^ n → subsetSum n (subsetSum n f) u ≡ f u
 subsetSum-twice zero f u h = rw (lt-one h) (subsetSum-zero _ ∙ subsetSum-zero _)
 subsetSum-twice (suc n) f u h = go (subsetSum-twice n) (top-cases n u h)

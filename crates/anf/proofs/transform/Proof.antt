@@ -1,11 +1,11 @@
--- `anf::convert` meets its contract: each way out is a law of `Answers`, whose premises `search` finds among what is known there.
+-- `anf::transform` meets its contract: each way out is a law of `Answers`, whose premises `search` finds among what is known there.
 use borrow.Author.Needs.{needs}
 use Rattle.anf.proofs.Answers.{answered, narrow, wide, uneven, large, short, done}
-use Rattle.anf.proofs.convert.Statement.{statement}
-use Rattle.anf.proofs.convert.Tie as tie
+use Rattle.anf.proofs.transform.Statement.{statement}
+use Rattle.anf.proofs.transform.Tie as tie
 
-pub convert-spec : {M : Type 1} → statement M
-convert-spec =
+pub transform-spec : {M : Type 1} → statement M
+transform-spec =
     tie.close
     (tie.spec
     (λ c. answered (search narrow))
