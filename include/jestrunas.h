@@ -44,7 +44,7 @@ extern "C" {
 /* Refusals of reading: read, judge, run; those of the head record, 1 to 4, forecast too. */
 #define JESTRUNAS_CUT_SHORT 1            /* a record's head or its body is cut short */
 #define JESTRUNAS_WRONG_KIND 2           /* a record's kind is not the one due */
-#define JESTRUNAS_WRONG_LENGTH 3         /* a record's length is not the one due; produce, transform: the table's length */
+#define JESTRUNAS_WRONG_LENGTH 3         /* a record's length is not the one due; produce, transform: that of the table or words */
 #define JESTRUNAS_LIMIT_BROKEN 4         /* a head number breaks a limit; produce, transform: m or s does */
 #define JESTRUNAS_ENTRY_TOO_LARGE 5      /* a table entry is 2^m or more; produce, transform: an entry or a word is */
 #define JESTRUNAS_BAD_TERM 6             /* a term names a variable beyond m * s, or does not rise */

@@ -3,7 +3,7 @@ use Prim.Native.Nat.{ℕ, zero, suc, _+_, _*_, _≤_, _<_}
 use mathlib.Core.Path.{_≡_, refl, sym, ap, _∙_}
 use mathlib.Core.List.{List, [], _∷_, _++_, map, append-assoc, append-nil}
 use native.Mathlib.Omega.{arith}
-use native.Mathlib.Nat.{add-zero, suc-mul, zero-mul}
+use native.Mathlib.Nat.{suc-mul, zero-mul}
 use native.Mathlib.Numerals.{add-one}
 use borrow.Author.Tests.{ne-eqb}
 use lib.ListN.{length, getD}
@@ -16,7 +16,7 @@ use Rattle.design.specs.Encode.{stageBytes, encode}
 use Rattle.design.specs.Reading.{lastOf, numberOf, kindDue}
 use Rattle.design.proofs.Flat.{headFor, stageBody, bodyOf, recordOf, flat}
 use Rattle.design.proofs.Found.{staged}
-use Rattle.records.proofs.Joined.{join-snoc}
+use Rattle.records.proofs.Joined.{join-snoc, join-add}
 use Rattle.design.proofs.Written.{body-stage, body-end, kind-end}
 
 map-is : {A : Type 0} {B : Type 0} (k : A → B) (xs : List A) (n : ℕ) (d : A) → length xs ≡ n → map k xs ≡ tabulate n (λ i. k (getD xs i d))
@@ -33,14 +33,6 @@ join-none g = refl
 join-first : (n : ℕ) (g : ℕ → List ℕ) → join (tabulate (suc n) g) ≡ g 0 ++ join (tabulate n (λ i. g (suc i)))
 unfolding join tabulate
 join-first n g = refl
-
--- n lists and m more
-join-add : (n m : ℕ) (g : ℕ → List ℕ) → join (tabulate (n + m) g) ≡ join (tabulate n g) ++ join (tabulate m (λ i. g (n + i)))
-join-add n zero g = rw (add-zero, join-none) (sym (append-nil (join (tabulate n g))))
-join-add n (suc m) g =
-    let e : n + suc m ≡ suc (n + m) = omega arith in
-    rw e (join-snoc g (n + m) ∙ ap (λ (x : List ℕ). x ++ g (n + m)) (join-add n m g)
-    ∙ append-assoc (join (tabulate n g)) _ (g (n + m)) ∙ ap (λ (x : List ℕ). join (tabulate n g) ++ x) (sym (join-snoc (λ i. g (n + i)) m)))
 
 -- k times c lists
 join-mul : (k c : ℕ) (g : ℕ → List ℕ) → join (tabulate (k * c) g) ≡ join (tabulate k (λ t. join (tabulate c (λ l. g (t * c + l)))))

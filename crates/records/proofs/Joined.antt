@@ -1,16 +1,28 @@
 -- Laws of lists one behind the other.
-use Prim.Native.Nat.{ℕ, zero, suc, _<_}
-use mathlib.Core.Path.{_≡_, sym, ap, _∙_}
-use mathlib.Core.List.{List, [], _++_, append-assoc, append-nil}
+use Prim.Native.Nat.{ℕ, zero, suc, _+_, _<_}
+use mathlib.Core.Path.{_≡_, refl, sym, ap, _∙_}
+use mathlib.Core.List.{List, [], _∷_, _++_, append-assoc, append-nil}
 use native.Mathlib.Omega.{arith}
 use native.Mathlib.Decide.{decLt}
 use Rattle.finite.specs.Tests.{tabulate}
+use Rattle.finite.proofs.Testing.{tabulate-last, tabulate-add}
 use Rattle.records.specs.Records.{join}
 
+pub join-append : (a b : List (List ℕ)) → join (a ++ b) ≡ join a ++ join b
+unfolding join
+join-append [] b = refl
+join-append (x ∷ a) b = ap (λ (l : List ℕ). x ++ l) (join-append a b) ∙ sym (append-assoc x (join a) (join b))
+
+pub join-last : (a : List (List ℕ)) (x : List ℕ) → join (a ++ (x ∷ [])) ≡ join a ++ x
+unfolding join
+join-last a x = join-append a (x ∷ []) ∙ ap (λ (l : List ℕ). join a ++ l) (append-nil x)
+
 pub join-snoc : (g : ℕ → List ℕ) (n : ℕ) → join (tabulate (suc n) g) ≡ join (tabulate n g) ++ g n
-unfolding join tabulate
-join-snoc g zero = append-nil (g 0)
-join-snoc g (suc n) = ap (λ (l : List ℕ). g 0 ++ l) (join-snoc (λ i. g (suc i)) n) ∙ sym (append-assoc (g 0) _ _)
+join-snoc g n = ap join (tabulate-last n g) ∙ join-last (tabulate n g) (g n)
+
+-- n lists and m more
+pub join-add : (n m : ℕ) (g : ℕ → List ℕ) → join (tabulate (n + m) g) ≡ join (tabulate n g) ++ join (tabulate m (λ i. g (n + i)))
+join-add n m g = ap join (tabulate-add n m g) ∙ join-append (tabulate n g) (tabulate m (λ i. g (n + i)))
 
 module _ (g : ℕ → List ℕ) where
   -- what stands behind the first i lists

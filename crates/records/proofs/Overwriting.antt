@@ -2,16 +2,17 @@
 -- And how long records are, and lists one behind the other.
 use Prim.Native.Nat.{ℕ, zero, suc, _+_, _-_, _≤_, _<_}
 use mathlib.Core.Path.{_≡_, refl, sym, ap, ap₂, _∙_}
-use mathlib.Core.List.{List, [], _∷_, _++_, map, append-assoc, append-nil}
+use mathlib.Core.List.{List, [], _∷_, _++_, map, map-append, append-assoc, append-nil}
 use native.Mathlib.Omega.{arith}
 use native.Mathlib.Numerals.{add-one, towards-suc}
 use native.Mathlib.Nat.{zero-add}
 use lib.ListN.{length, getD, set, take, drop, length-append, length-drop, length-set, drop-of-length-le}
 use borrow.Rule.Slice.PartMut.{putMid}
-use lib.Seq.{sets, sets-eq, paste-zero, take-all, take-length, length-take-le, drop-drop, take-at, drop-at}
+use lib.Seq.{sets, sets-eq, paste-zero, take-all, take-suc, take-length, length-take-le, drop-drop, take-at, drop-at}
 use Rattle.finite.specs.Tests.{total}
 use Rattle.records.specs.inside.Overwriting.{overwrite}
 use Rattle.records.specs.Records.{join, recordHead, aRecord}
+use Rattle.records.proofs.Joined.{join-last}
 
 -- straight-line stores
 overwrite-sets : (b l : List ℕ) (at : ℕ) → at + length b ≤ length l → sets l at b ≡ overwrite l at b
@@ -90,13 +91,8 @@ record-length kind b = omega arith
 
 -- one list more, as code counts
 pub join-more : {A : Type 0} (k : A → List ℕ) (xs : List A) (n : ℕ) (d : A) → n < length xs → join (map k (take (n + 1) xs)) ≡ join (map k (take n xs)) ++ k (getD xs n d)
-unfolding join
-join-more k xs n d h = rw add-one (go k xs n d h)
-  where
-    go : {A : Type 0} (k : A → List ℕ) (xs : List A) (n : ℕ) (d : A) → n < length xs → join (map k (take (suc n) xs)) ≡ join (map k (take n xs)) ++ k (getD xs n d)
-    go k [] n d h = absurd (omega arith)
-    go k (x ∷ xs) zero d h = append-nil (k x)
-    go k (x ∷ xs) (suc n) d h = ap (λ (l : List ℕ). k x ++ l) (go k xs n d (omega arith)) ∙ sym (append-assoc (k x) _ _)
+join-more k xs n d h =
+    rw (add-one, take-suc xs n d h) (ap join (map-append k (take n xs) (getD xs n d ∷ [])) ∙ join-last (map k (take n xs)) (k (getD xs n d)))
 
 -- ---- how long lists one behind the other are
 

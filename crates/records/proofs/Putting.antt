@@ -1,7 +1,7 @@
 -- Writing records: what a record and a list take, and that head and body, or head and terms, make the record. Premises stand as the code has them:
 -- o₀ is the output at first, o at a turn, o′ after a step.
 use mathlib.Core.Path.{_≡_, refl, sym, ap, ap₂, _∙_}
-use mathlib.Core.List.{List, [], _∷_, _++_, map, append-assoc}
+use mathlib.Core.List.{List, [], _∷_, _++_, map, map-append, append-assoc}
 use Prim.Native.Nat.{ℕ, _+_, _*_, _≤_, _<_}
 use native.Mathlib.Nat.{zero-add}
 use native.Mathlib.Numerals.{add-one}
@@ -11,6 +11,7 @@ use lib.Seq.{take-suc, take-length}
 use Rattle.records.specs.Bytes.{four, termBytes}
 use Rattle.records.specs.Records.{join, recordHead, aRecord, listRecord, endRecord}
 use Rattle.records.specs.inside.Overwriting.{overwrite, listRecords}
+use Rattle.records.proofs.Joined.{join-append}
 use Rattle.records.proofs.TermBytes.{length-termBytes}
 use Rattle.records.proofs.Overwriting.{overwrite-nil, overwrite-append, overwrite-record, record-length, join-more}
 
@@ -90,18 +91,9 @@ list-put o₀ o₁ o l at n j h g e₁ a b e =
 
 -- ---- the records of lists, one behind the other
 
-join-append : (a b : List (List ℕ)) → join (a ++ b) ≡ join a ++ join b
-unfolding join
-join-append [] b = refl
-join-append (x ∷ a) b = ap (λ (l : List ℕ). x ++ l) (join-append a b) ∙ sym (append-assoc x (join a) (join b))
-
-map-append : (a b : List (List ℕ)) → map listRecord (a ++ b) ≡ map listRecord a ++ map listRecord b
-map-append [] b = refl
-map-append (x ∷ a) b = ap (λ (l : List (List ℕ)). listRecord x ∷ l) (map-append a b)
-
 records-append : (a b : List (List ℕ)) → listRecords (a ++ b) ≡ listRecords a ++ listRecords b
 unfolding listRecords
-records-append a b = ap join (map-append a b) ∙ join-append (map listRecord a) (map listRecord b)
+records-append a b = ap join (map-append listRecord a b) ∙ join-append (map listRecord a) (map listRecord b)
 
 pub records-none : (ls : List (List ℕ)) → listRecords (take 0 ls) ≡ []
 unfolding listRecords join
