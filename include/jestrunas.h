@@ -3,8 +3,9 @@
  *
  * A design file states an S-box S of m bits, s shares for each value and a chain of k stages, each with a table G and
  * one list of products for every output bit of every component. The library reads such a file, forecasts what a verdict
- * on it takes, gives that verdict, runs it on given shares, and produces one from a table; and it transforms a table
- * into its coefficient words and back. Shares, components and stages are numbered from 1, bits and bytes from 0.
+ * on it takes, gives that verdict, runs it on given shares, produces one from a table, and joins two into one; and it
+ * transforms a table into its coefficient words and back. Shares, components and stages are numbered from 1, bits and
+ * bytes from 0.
  *
  * What a caller owes, for every function here: a pointer and the length after it are a buffer of that many readable
  * bytes (an output or a workspace: writable too), and no buffer that is written to overlaps another of the same call.
@@ -35,13 +36,13 @@ extern "C" {
 #define JESTRUNAS_WORKSPACE(m, s) (((size_t)1 << ((m) * (s))) / 8)
 #define JESTRUNAS_WORKSPACE_MAX 131072
 
-/* An output that is enough for every file that is produced: none is longer, so with it 17 is never answered. */
+/* An output that is enough for every file that produce writes: none is longer, so with it produce never answers 17. */
 #define JESTRUNAS_PRODUCED_MAX 20867
 
 /* The reasons. Each is given by the operations named after it. */
 #define JESTRUNAS_ACCEPTED 0             /* judge: the design is accepted */
-#define JESTRUNAS_OK 0                   /* read, forecast, run, produce, transform: done, with no verdict on the design */
-/* Refusals of reading: read, judge, run; those of the head record, 1 to 4, forecast too. */
+#define JESTRUNAS_OK 0                   /* read, forecast, run, produce, join, transform: done, with no verdict on the design */
+/* Refusals of reading: read, judge, run, join; those of the head record, 1 to 4, forecast too. */
 #define JESTRUNAS_CUT_SHORT 1            /* a record's head or its body is cut short */
 #define JESTRUNAS_WRONG_KIND 2           /* a record's kind is not the one due */
 #define JESTRUNAS_WRONG_LENGTH 3         /* a record's length is not the one due; produce, transform: that of the table or words */
@@ -60,8 +61,10 @@ extern "C" {
 /* Refusals of the other operations. */
 #define JESTRUNAS_BAD_SHARE 15           /* run: a used share is 2^m or more, or an unused one is not 0 */
 #define JESTRUNAS_DEGREE_TOO_HIGH 16     /* produce: the degree is s or more */
-#define JESTRUNAS_OUTPUT_TOO_SHORT 17    /* produce, transform: the result does not fit the lent output */
+#define JESTRUNAS_OUTPUT_TOO_SHORT 17    /* produce, join, transform: the result does not fit the lent output */
 #define JESTRUNAS_INPUT_TOO_LONG 18      /* the verdict program only: its input exceeds 32,768 bytes */
+#define JESTRUNAS_SHARES_DIFFER 19       /* join: the widths or the share counts of the two designs differ */
+#define JESTRUNAS_TOO_MANY_STAGES 20     /* join: the two designs have more than four stages together */
 
 /*
  * The answer of reading, and the three numbers of a verdict.
@@ -117,7 +120,7 @@ typedef struct {
     jestrunas_shares_t shares;
 } jestrunas_run_t;
 
-/* The answer of producing. */
+/* The answer of producing and of joining: length is that of the file that was written, 0 for a refusal. */
 typedef struct {
     size_t reason;
     size_t length;
@@ -161,6 +164,18 @@ jestrunas_run_t jestrunas_run(const uint8_t *file, size_t file_len, jestrunas_sh
  */
 jestrunas_produced_t jestrunas_produce(size_t m, size_t s, const uint8_t *table, size_t table_len, uint8_t *output,
                                        size_t output_len);
+
+/*
+ * Joins two design files into one: its S is S of the second after S of the first, S(x) = S2(S1(x)); its stages are those
+ * of the first, then those of the second; m and s are those of both. Answers 0 and the file's length, which is
+ * first_len + second_len - (2^m + 15), the bytes past it untouched; or the reading's reason of the first (1 to 7), then
+ * that of the second, 19, 20 or 17, tested in this order, and length 0, the output untouched. An output of
+ * first_len + second_len bytes is always enough. Both need only read: no verdict is taken. What is joined reads; where
+ * both are accepted it is accepted too, in the same workspace; and running it is running the second on what the first
+ * gives. The files are only read, and may be one and the same buffer.
+ */
+jestrunas_produced_t jestrunas_join(const uint8_t *first, size_t first_len, const uint8_t *second, size_t second_len,
+                                    uint8_t *output, size_t output_len);
 
 /*
  * The transform between a table and the coefficient words of its algebraic normal form: the word at set u is the sum

@@ -1,7 +1,8 @@
 /*
  * Measures the stack that each published operation needs: calls it on a stack of its own, filled with a pattern before, and
  * looks for the lowest byte that changed. Prints a line for each operation: its name and the most bytes of all its calls.
- * The designs are the files named on the command line, also cut short at every byte.
+ * The designs are the files named on the command line, also cut short at every byte; each is joined with the one named
+ * before it and with itself.
  */
 #define _GNU_SOURCE
 #include "jestrunas.h"
@@ -13,8 +14,8 @@
 enum { ROOM = 1 << 16, PATTERN = 0xa5 };
 
 static uint8_t stack[ROOM] __attribute__((aligned(4096)));
-static uint8_t file[1 << 20], workspace[JESTRUNAS_WORKSPACE_MAX], output[JESTRUNAS_PRODUCED_MAX], table[64];
-static size_t file_len, width, shares, table_len;
+static uint8_t file[1 << 20], other[sizeof file], workspace[JESTRUNAS_WORKSPACE_MAX], output[JESTRUNAS_PRODUCED_MAX], table[64];
+static size_t file_len, other_len, width, shares, table_len;
 static jestrunas_shares_t given;
 static ucontext_t here, there;
 
@@ -24,6 +25,7 @@ static void call_forecast(void) { jestrunas_forecast(file, file_len); }
 static void call_judge(void) { jestrunas_judge(file, file_len, workspace, sizeof workspace); }
 static void call_run(void) { jestrunas_run(file, file_len, given); }
 static void call_produce(void) { jestrunas_produce(width, shares, table, table_len, output, sizeof output); }
+static void call_join(void) { jestrunas_join(file, file_len, other, other_len, output, sizeof output); }
 static void call_transform(void) { jestrunas_transform(width, table, table_len, output, sizeof output); }
 
 /* How many bytes of the stack a call changes, from the top down. */
@@ -50,16 +52,17 @@ static struct {
     {"judge", call_judge, 0},
     {"run", call_run, 0},
     {"produce", call_produce, 0},
+    {"join", call_join, 0},
     {"transform", call_transform, 0},
 };
-enum { READ, FORECAST, JUDGE, RUN, PRODUCE, TRANSFORM, COUNT };
+enum { READ, FORECAST, JUDGE, RUN, PRODUCE, JOIN, TRANSFORM, COUNT };
 
 static void measure(int i) {
     size_t bytes = changed(operations[i].call);
     if (bytes > operations[i].most) operations[i].most = bytes;
 }
 
-/* A file, and its cuts. */
+/* A file, and its cuts. The other file is the one before and, at the end, this one. */
 static void measure_file(const char *name) {
     FILE *f = fopen(name, "rb");
     if (!f) {
@@ -73,6 +76,13 @@ static void measure_file(const char *name) {
         measure(FORECAST);
         measure(JUDGE);
         measure(RUN);
+        measure(JOIN);
+    }
+    memcpy(other, file, whole);
+    file_len = whole;
+    for (size_t cut = 0; cut <= whole; cut++) {
+        other_len = cut;
+        measure(JOIN);
     }
 }
 

@@ -41,7 +41,7 @@ static int forecast(const uint8_t *file, size_t length, size_t reason, size_t wo
 }
 
 int main(void) {
-    uint8_t workspace[2] = {7, 9}, other[sizeof d], output[64], words[8], again[8];
+    uint8_t workspace[2] = {7, 9}, other[80], output[160], words[8], again[8];
     const uint8_t box[8] = {0, 1, 2, 3, 4, 5, 7, 6}, coefficients[8] = {0, 1, 2, 0, 4, 0, 1, 0}, not_box[2] = {1, 0};
     jestrunas_shares_t shares = {{1, 0, 0, 0, 0}}, large = {{2, 0, 0, 0, 0}};
 
@@ -71,9 +71,9 @@ int main(void) {
     expect(judged(jestrunas_judge(uneven_d, sizeof uneven_d, workspace, 2), JESTRUNAS_NOT_UNIFORM, 1, 0, 13), "judge an uneven D");
     memcpy(other, d, sizeof d);
     other[11] = 1;
-    expect(judged(jestrunas_judge(other, sizeof other, workspace, 2), JESTRUNAS_BOX_REPEATS, 0, 0, 0), "judge D with S of 1 1");
+    expect(judged(jestrunas_judge(other, sizeof d, workspace, 2), JESTRUNAS_BOX_REPEATS, 0, 0, 0), "judge D with S of 1 1");
     other[12] = 0;
-    expect(judged(jestrunas_judge(other, sizeof other, workspace, 2), JESTRUNAS_CHAIN_IS_NOT_BOX, 0, 0, 0), "judge D with S of 1 0");
+    expect(judged(jestrunas_judge(other, sizeof d, workspace, 2), JESTRUNAS_CHAIN_IS_NOT_BOX, 0, 0, 0), "judge D with S of 1 0");
     expect(JESTRUNAS_WORKSPACE(1, 3) == 1 && JESTRUNAS_WORKSPACE(5, 4) == JESTRUNAS_WORKSPACE_MAX, "the workspace due");
 
     jestrunas_run_t run = jestrunas_run(d, sizeof d, shares);
@@ -91,6 +91,36 @@ int main(void) {
     expect(made.reason == JESTRUNAS_OUTPUT_TOO_SHORT && made.length == 0, "produce into no output");
     expect(jestrunas_produce(4, 2, NULL, 0, NULL, 0).reason == JESTRUNAS_LIMIT_BROKEN, "produce with two shares");
     expect(jestrunas_produce(1, 3, NULL, 0, NULL, 0).reason == JESTRUNAS_WRONG_LENGTH, "produce from no table");
+
+    uint8_t twice[80], four[140], untouched[sizeof output];
+    memset(twice, 9, sizeof twice);
+    made = jestrunas_join(d, sizeof d, d, sizeof d, twice, sizeof twice);
+    expect(made.reason == JESTRUNAS_OK && made.length == 77 && twice[77] == 9, "join D with itself");
+    expect(judged(jestrunas_judge(twice, 77, workspace, 2), JESTRUNAS_ACCEPTED, 2, 0, 32), "judge what is joined");
+    run = jestrunas_run(twice, 77, shares);
+    const uint8_t ran_twice[5] = {0, 1, 0, 0, 0};
+    expect(run.reason == JESTRUNAS_OK && !memcmp(run.shares.share, ran_twice, 5), "run what is joined on 1 0 0");
+    made = jestrunas_join(kept_d, sizeof kept_d, d, sizeof d, twice, sizeof twice);
+    expect(made.reason == JESTRUNAS_OK && !memcmp(twice + 13, kept_d + 13, 30) && !memcmp(twice + 43, d + 13, 34), "join two stages");
+    made = jestrunas_join(twice, 77, twice, 77, four, sizeof four);
+    expect(made.reason == JESTRUNAS_OK && made.length == 137, "join to four stages");
+    memset(output, 9, sizeof output);
+    memset(untouched, 9, sizeof untouched);
+    made = jestrunas_join(four, 137, d, sizeof d, output, sizeof output);
+    expect(made.reason == JESTRUNAS_TOO_MANY_STAGES && made.length == 0, "join to five stages");
+    const uint8_t two_bits[4] = {0, 1, 2, 3};
+    size_t other_len = jestrunas_produce(2, 3, two_bits, 4, other, sizeof other).length;
+    made = jestrunas_join(four, 137, other, other_len, output, sizeof output);
+    expect(made.reason == JESTRUNAS_SHARES_DIFFER && made.length == 0, "join two widths");
+    other_len = jestrunas_produce(1, 4, not_box, 2, other, sizeof other).length;
+    made = jestrunas_join(other, other_len, d, sizeof d, output, sizeof output);
+    expect(made.reason == JESTRUNAS_SHARES_DIFFER && made.length == 0, "join two share counts");
+    made = jestrunas_join(d, sizeof d, d, sizeof d, output, 76);
+    expect(made.reason == JESTRUNAS_OUTPUT_TOO_SHORT && made.length == 0, "join into an output that is a byte too short");
+    expect(!memcmp(output, untouched, sizeof output), "a refusal of joining leaves the output");
+    expect(jestrunas_join(d, sizeof d, d, sizeof d, NULL, 0).reason == JESTRUNAS_OUTPUT_TOO_SHORT, "join into no output");
+    expect(jestrunas_join(NULL, 0, d, sizeof d, NULL, 0).reason == JESTRUNAS_CUT_SHORT, "join nothing with D");
+    expect(jestrunas_join(d, sizeof d, NULL, 0, NULL, 0).reason == JESTRUNAS_CUT_SHORT, "join D with nothing");
 
     expect(jestrunas_transform(3, box, 8, words, 8) == JESTRUNAS_OK && !memcmp(words, coefficients, 8), "transform a table");
     expect(jestrunas_transform(3, words, 8, again, 8) == JESTRUNAS_OK && !memcmp(again, box, 8), "transform its coefficients");

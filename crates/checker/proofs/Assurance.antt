@@ -64,7 +64,7 @@ module _ (f : List ℕ) (n : ℕ) (d : Design) (a : Accepted f n d) where
         run = running-sharing f d (a .reads) shares-most;
       }
 
-  accepted-assured : Assured f d
+  pub accepted-assured : Assured f d
   accepted-assured =
       record {
         reads = a .reads;
@@ -83,7 +83,7 @@ module _ (f : List ℕ) (n : ℕ) (d : Design) (a : Accepted f n d) where
         same = same-sharings;
       }
 
-  accepted-blind : Blind d
+  pub accepted-blind : Blind d
   accepted-blind =
       record {
         settings = λ x y i e lx ly li le p. setting-independent (d .m) (d .s) (d .stages) bijective x y i lx ly e le p;

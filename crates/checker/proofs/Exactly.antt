@@ -170,3 +170,7 @@ accepted-exactly f n k = (
 -- reason 0 alone
 pub reason-zero : (f : List ℕ) (n : ℕ) → verdict f n .reason ≡ 0 → (d : Design) × Accepted f n d
 reason-zero f n e = let r = accepts f n (verdict f n) (explained f n) e in (r .0, r .2)
+
+-- of a design that is known
+pub reason-accepted : (f : List ℕ) (n : ℕ) (d : Design) → reading f ≡ means d → verdict f n .reason ≡ 0 → Accepted f n d
+reason-accepted f n d r e = let a = reason-zero f n e in subst (Accepted f n) (same f n (a .0) (a .1) d r) (a .1)

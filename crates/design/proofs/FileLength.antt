@@ -25,14 +25,17 @@ stage-length g =
     omega arith
 
 -- a file: the head, the box, the stages, the end
-pub encode-length : (d : Design) → length (encode d) ≡ 7 + (4 + length (d .box)) + total (length (d .stages)) (λ t. length (stageBytes (stageOf d t))) + 4
+pub parts-length : (d : Design) → length (encode d) ≡ 7 + (4 + length (d .box)) + length (join (map stageBytes (d .stages))) + 4
 unfolding encode
-encode-length d =
+parts-length d =
     let a = length-append (aRecord 1 (headBody d)) (aRecord 2 (d .box) ++ (join (map stageBytes (d .stages)) ++ endRecord)) in
     let b = length-append (aRecord 2 (d .box)) (join (map stageBytes (d .stages)) ++ endRecord) in
     let c = length-append (join (map stageBytes (d .stages))) endRecord in
     let p = record-length 1 (headBody d) in
     let q = record-length 2 (d .box) in
     let r = record-length 4 [] in
-    let s = join-length stageBytes (d .stages) noStage in
     omega arith
+
+-- stage by stage
+pub encode-length : (d : Design) → length (encode d) ≡ 7 + (4 + length (d .box)) + total (length (d .stages)) (λ t. length (stageBytes (stageOf d t))) + 4
+encode-length d = let s = join-length stageBytes (d .stages) noStage in let r = parts-length d in omega arith

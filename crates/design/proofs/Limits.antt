@@ -4,7 +4,7 @@ use mathlib.Core.Path.{_≡_, refl}
 use mathlib.Core.Bool.{Bool, true, false}
 use native.Mathlib.Omega.{arith}
 use native.Mathlib.Nat.{mul-le-mul}
-use borrow.Author.Tests.{ltb-false}
+use borrow.Author.Tests.{ltb-false, le-ltb}
 use mathlib.Core.List.{[], _∷_}
 use Rattle.finite.specs.Tests.{pick}
 use Rattle.finite.proofs.Testing.{or-false}
@@ -49,6 +49,12 @@ bounds m s k e =
       k-low = ltb-false _ _ (b .1);
       k-high = ltb-false _ _ (a .1);
     }
+
+-- and the other way: numbers within the limits break none
+pub unbroken : (m s k : ℕ) → 1 ≤ m → m ≤ greatestWidth → leastShares ≤ s → s ≤ greatestShares → m * s ≤ greatestShareBits → 1 ≤ k → k ≤ greatestStages
+    → broken m s k ≡ false
+unfolding broken
+unbroken m s k a b c d e f g = simp (le-ltb _ _ a, le-ltb _ _ b, le-ltb _ _ c, le-ltb _ _ d, le-ltb _ _ e, le-ltb _ _ f, le-ltb _ _ g)
 
 -- ---- the answer of the head's constructor in the paper's numbers
 

@@ -6,9 +6,8 @@ use native.Mathlib.Omega.{arith}
 use native.Mathlib.Nat.{suc-mul, zero-mul}
 use native.Mathlib.Numerals.{add-one}
 use borrow.Author.Tests.{ne-eqb}
-use lib.ListN.{length, getD}
 use Rattle.finite.specs.Tests.{tabulate}
-use Rattle.finite.proofs.Testing.{tabulate-congr}
+use Rattle.finite.proofs.Testing.{tabulate-congr, map-is}
 use Rattle.records.specs.Bytes.{termBytes}
 use Rattle.design.specs.Design.{Design, noStage, stageOf, listOf, WellFormed}
 use Rattle.records.specs.Records.{join, aRecord}
@@ -18,13 +17,6 @@ use Rattle.design.proofs.Flat.{headFor, stageBody, bodyOf, recordOf, fl
 use Rattle.design.proofs.Found.{staged}
 use Rattle.records.proofs.Joined.{join-snoc, join-add}
 use Rattle.design.proofs.Written.{body-stage, body-end, kind-end}
-
-map-is : {A : Type 0} {B : Type 0} (k : A → B) (xs : List A) (n : ℕ) (d : A) → length xs ≡ n → map k xs ≡ tabulate n (λ i. k (getD xs i d))
-unfolding tabulate
-map-is k [] zero d e = refl
-map-is k [] (suc n) d e = absurd (omega arith)
-map-is k (x ∷ xs) zero d e = absurd (omega arith)
-map-is k (x ∷ xs) (suc n) d e = ap (λ (l : List _). k x ∷ l) (map-is k xs n d (omega arith))
 
 join-none : (g : ℕ → List ℕ) → join (tabulate 0 g) ≡ []
 unfolding join tabulate

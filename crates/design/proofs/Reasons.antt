@@ -4,9 +4,9 @@ use Prim.Native.Nat.{ℕ, zero, suc, _+_, _*_, _-_, _/_, _%_, _^_, _≤_, _<_}
 use mathlib.Core.Path.{_≡_, refl, sym, ap, _∙_, subst}
 use mathlib.Core.List.{List, _∷_}
 use mathlib.Core.Bool.{Bool, true, false, _||_, true≢false, not}
-use mathlib.Core.Logic.{⊎-elim}
+use mathlib.Core.Logic.{⊎-elim, _≢_}
 use native.Mathlib.Omega.{arith}
-use borrow.Author.Tests.{eqb-false, eqb-true, ltb-true, ltb-false, eq-eqb, le-ltb, lt-ltb, ne-eqb, not-false, not-true, le-leb}
+use borrow.Author.Tests.{eqb-false, eqb-true, ltb-true, ltb-false, eq-eqb, lt-ltb, ne-eqb, not-false, not-true, le-leb}
 use lib.ListN.{length}
 use lib.Dec.{ltb, eqb, lit<}
 use native.Mathlib.Nat.{not-suc-le-zero}
@@ -18,13 +18,14 @@ use Rattle.finite.proofs.Faults.{fault-cases}
 use Rattle.anf.specs.Terms.{before}
 use Rattle.design.specs.Limits.{greatestTerms, broken}
 use Rattle.records.specs.Bytes.{u16At}
-use Rattle.design.specs.Reading.{refused, means, lastOf, headOf, kindDue, sizeDue, lengthDue, entryFits, termFits, previous, faultAt, meaning, place, walk, reading, bodyFaults}
+use Rattle.design.specs.Reading.{Reading, refused, means, reasonOf, placeOf}
+use Rattle.design.specs.Reading.{lastOf, headOf, kindDue, sizeDue, lengthDue, entryFits, termFits, previous, faultAt, meaning, place, walk, reading, bodyFaults}
 use Rattle.design.specs.Refused.{WithinLimits, LengthFits, TermFits, RecordStands, RecordFits, FitBefore, Reached, termAt, kindAt}
 use Rattle.design.specs.Refused.{RefusedFor, head-cut, kind-wrong, length-wrong, body-cut, limit-broken, entry-high, term-wrong, bytes-follow}
 use Rattle.design.specs.declared.Head.{Head}
-use Rattle.design.proofs.Limits.{bounds}
+use Rattle.design.proofs.Limits.{bounds, unbroken}
 use Rattle.design.proofs.Records.{bodyFault, Framed, body-1, body-2, body-3, body-none, fault-framed, previous-more, entry-below, entry-not, body-4}
-use Rattle.design.proofs.Written.{list-size}
+use Rattle.design.proofs.Written.{list-size, read-means}
 use Rattle.design.proofs.Walking.{place-next}
 
 -- ---- the tests, as propositions
@@ -79,18 +80,9 @@ within h e =
     }
 
 beyond : (h : Head) → broken (h .m) (h .s) (h .k) ≡ true → WithinLimits h → ⊥
-unfolding broken
 beyond h e w =
     clash e
-    (simp (
-      le-ltb _ _ (w .least-m),
-      le-ltb _ _ (w .greatest-m),
-      le-ltb _ _ (w .least-s),
-      le-ltb _ _ (w .greatest-s),
-      le-ltb _ _ (w .greatest-bits),
-      le-ltb _ _ (w .least-k),
-      le-ltb _ _ (w .greatest-k),
-    ))
+    (unbroken (h .m) (h .s) (h .k) (w .least-m) (w .greatest-m) (w .least-s) (w .greatest-s) (w .greatest-bits) (w .least-k) (w .greatest-k))
 
 -- term j of record i
 module _ (f : List ℕ) (i : ℕ) where
@@ -279,3 +271,18 @@ reason-range f r p e = go r p (refused-for f r p e)
     go r p (entry-high i x b w k l y h) = (omega arith, omega arith)
     go r p (term-wrong i j b w k l y h) = (omega arith, omega arith)
     go r p (bytes-follow b l) = (omega arith, omega arith)
+
+-- so the number alone tells whether the file reads
+pub reason-none : (f : List ℕ) → reasonOf (reading f) ≡ 0 → reading f ≡ means (meaning f)
+reason-none f z = go (reading f) refl z
+  where
+    go : (r : Reading) → reading f ≡ r → reasonOf r ≡ 0 → r ≡ means (meaning f)
+    go (refused r p) e z = absurd (omega (arith, reason-range f r p e))
+    go (means d) e z = ap means (read-means f d e)
+
+pub reason-some : (f : List ℕ) → reasonOf (reading f) ≢ 0 → reading f ≡ refused (reasonOf (reading f)) (placeOf (reading f))
+reason-some f n = go (reading f) n
+  where
+    go : (r : Reading) → reasonOf r ≢ 0 → r ≡ refused (reasonOf r) (placeOf r)
+    go (refused r p) n = refl
+    go (means d) n = absurd (n refl)

@@ -6,6 +6,7 @@ pub use parts::body;
 pub use parts::box_table;
 pub use parts::list;
 pub use parts::number;
+pub use parts::stages;
 pub use parts::table;
 pub use reader::read;
 pub use reader::read_head;

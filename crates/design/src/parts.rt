@@ -3,11 +3,15 @@ use super::Head;
 use super::Layout;
 use finite::power;
 use records::pair;
+use records::record_size;
 ghost use mathlib.Core.Path.{_≡_};
+ghost use mathlib.Core.List.{map};
 ghost use Prim.Native.Nat.{_*_, _≤_, _<_};
 ghost use lib.ListN.{getD};
 ghost use Rattle.records.specs.Bytes.{termBytes};
+ghost use Rattle.records.specs.Records.{join};
 ghost use Rattle.design.specs.Design.{stageOf, listOf};
+ghost use Rattle.design.specs.Encode.{stageBytes};
 ghost use Rattle.design.specs.Limits.{greatestRecords};
 ghost use Rattle.design.specs.Reading.{lastOf, numberOf, meaning};
 ghost use Rattle.design.specs.inside.Described.{Limits, Describes};
@@ -59,6 +63,16 @@ pub fn list(file: &[u8], layout: Layout, t: usize, l: usize) -> &[u8]
     let from = start(layout, i);
     let n = pair(file, from - 4);
     &file[from..from + n]
+}
+
+// The records of all stages, one behind the other: what stands between those of the head and the box and that of the end.
+pub fn stages(file: &[u8], layout: Layout) -> &[u8]
+    requires { ⌜ Describes (now file) layout ⌝ }
+    ensures { λ r. ⌜ now r ≡ join (map stageBytes (meaning (now (file .entry)) .stages)) ⌝ }
+{
+    let from = record_size(3) + record_size(power(layout.head.m));
+    let end = file.len() - record_size(0);
+    &file[from..end]
 }
 
 // The body that starts at `start`, where the next one starts at `next`.

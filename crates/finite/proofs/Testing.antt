@@ -3,14 +3,14 @@
 use mathlib.Core.Path.{_≡_, refl, sym, ap, ap₂, _∙_}
 use mathlib.Core.Logic.{_⊎_, inl, inr, ⊎-elim}
 use mathlib.Core.Bool.{Bool, true, false, _&&_, _||_, true≢false, false≢true, not}
-use mathlib.Core.List.{List, [], _∷_, _++_, append-assoc, append-nil}
+use mathlib.Core.List.{List, [], _∷_, _++_, map, append-assoc, append-nil}
 use Prim.Native.Nat.{ℕ, zero, suc, _+_, _≤_, _<_}
 use native.Mathlib.Nat.{add-zero, le-of-suc-le-suc, not-suc-le-zero, le-refl, le-step, eq-or-lt-of-le}
 use native.Mathlib.Numerals.{add-one}
 use native.Mathlib.Omega.{arith}
 use lib.Dec.{eqb}
 use borrow.Author.Tests.{eqb-true}
-use lib.ListN.{length, getD, drop, set}
+use lib.ListN.{length, getD, drop, set, length-map, List·getD-map}
 use lib.Seq.{set-at, drop-cons, ext-getD}
 use Rattle.finite.specs.Tests.{pick, implies, all, any, first, tried, tabulate}
 
@@ -279,6 +279,10 @@ pub tabulate-congr : {A : Type 0} (n : ℕ) (f g : ℕ → A) → ((i : ℕ) →
 unfolding tabulate
 tabulate-congr zero f g h = refl
 tabulate-congr (suc n) f g h = ap₂ _∷_ (h 0 (omega arith)) (tabulate-congr n (λ i. f (suc i)) (λ i. g (suc i)) (λ i l. h (suc i) (omega arith)))
+
+-- a list of what k makes of each entry
+pub map-is : {A : Type 0} {B : Type 0} (k : A → B) (xs : List A) (n : ℕ) (d : A) → length xs ≡ n → map k xs ≡ tabulate n (λ i. k (getD xs i d))
+map-is k xs n d e = sym (tabulate-of (map k xs) n (λ i. k (getD xs i d)) (k d) (length-map xs k ∙ e) (λ i l. sym (List·getD-map k xs i d)))
 
 -- the last one, apart
 pub tabulate-last : {A : Type 0} (n : ℕ) (g : ℕ → A) → tabulate (suc n) g ≡ tabulate n g ++ (g n ∷ [])

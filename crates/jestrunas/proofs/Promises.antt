@@ -4,7 +4,7 @@ use mathlib.Core.Path.{_≡_}
 use mathlib.Core.Logic.{_↔_, _⊎_, _≢_}
 use mathlib.Core.Bool.{true, _&&_}
 use mathlib.Core.List.{List, [], _∷_, _++_, map}
-use Prim.Native.Nat.{ℕ, _*_, _^_, _≤_, _<_}
+use Prim.Native.Nat.{ℕ, _+_, _*_, _^_, _≤_, _<_}
 use lib.Count.{ones}
 use lib.ListN.{length, getD, take, drop}
 use lib.Dec.{eqb}
@@ -55,6 +55,14 @@ use Rattle.direct.proofs.Counts.{products-count}
 use Rattle.producer.proofs.Room as producer-room
 use Rattle.direct.proofs.Bench as direct-bench
 use Rattle.producer.proofs.Bench as producer-bench
+use Rattle.joiner.specs.Joining.{joinedDesign, joined, joinedReason, joining, joinedAfter, Joinable, JoiningExplained, runningOnward}
+use Rattle.joiner.specs.Bench as bench-joiner
+use Rattle.joiner.proofs.Formed as joined-form
+use Rattle.joiner.proofs.Accepting as joined-verdict
+use Rattle.joiner.proofs.Seam as seam
+use Rattle.joiner.proofs.Answers as joined-answers
+use Rattle.joiner.proofs.Room as joined-lengths
+use Rattle.joiner.proofs.Bench as joiner-bench
 use Rattle.jestrunas.proofs.Produced.{produced-verdict}
 
 -- ---- Normal form, for any number of variables
@@ -237,7 +245,52 @@ most-met = producer-room.most-met
 pub output-enough : (m s : ℕ) (t : List ℕ) (room : ℕ) → 20867 ≤ room → producedReason m s t room ≢ 17
 output-enough = producer-room.room-enough
 
--- ---- 10. Bench. Every starred design of the papers answers as it must; and what a component reads is met as often as rows say.
+-- ---- Chaining two boxes
+
+-- What is joined reads as the joined design: its S sends each x through S of the first and then through S of the second, and its stages are those of the
+-- first and then those of the second.
+pub joined-reads : (f g : List ℕ) (d e : Design) → Joinable f g d e → reading (joined f g) ≡ means (joinedDesign d e)
+joined-reads = joined-form.joined-reads
+
+pub joined-box : (f g : List ℕ) (d e : Design) → Joinable f g d e → (x : ℕ) → x < 2 ^ d .m → entry (joinedDesign d e .box) x ≡ entry (e .box) (entry (d .box) x)
+joined-box = joined-form.joined-box
+
+-- Where both files are accepted, the joined one is accepted with the workspace that served the first, and its users have the same assurance through the seam.
+pub joined-accepted : (f g : List ℕ) (d e : Design) (n n′ : ℕ) → Joinable f g d e → verdict f n .reason ≡ 0 → verdict g n′ .reason ≡ 0
+    → (verdict (joined f g) n ≡ answer 0 (d .k + e .k) 0) × Assured (joined f g) (joinedDesign d e) × Blind (joinedDesign d e)
+joined-accepted = joined-verdict.joined-accepted
+
+-- Running the joined file is running the second on what the first gives, for all files that can be joined, accepted or not, and for all shares; where the first
+-- refuses the shares, the joined file refuses them too.
+pub joined-runs : (f g : List ℕ) (d e : Design) → Joinable f g d e → (l : List ℕ) → running (joined f g) l ≡ runningOnward g (running f l)
+joined-runs = seam.joined-runs
+
+-- 0 is answered exactly when the files can be joined and the joined file fits the output; and every number exactly when it is explained: the refusal that it
+-- names is there, and none before it in the published order is.
+pub joined-exactly : (f g : List ℕ) (room : ℕ) → (joinedReason f g room ≡ 0) ↔ ((d : Design) × (e : Design) × Joinable f g d e × (length (joined f g) ≤ room))
+joined-exactly = joined-answers.joined-exactly
+
+pub joined-explained : (f g : List ℕ) (room r : ℕ) → (joinedReason f g room ≡ r) ↔ JoiningExplained f g room r
+joined-explained = joined-answers.joined-explained
+
+-- On success the output starts with the joined file; the bytes past it are untouched; and on a refusal all are.
+pub joined-file : (f g out : List ℕ) → joinedReason f g (length out) ≡ 0 → take (length (joined f g)) (joinedAfter f g out) ≡ joined f g
+joined-file = joined-answers.joined-file
+
+pub joined-rest : (f g out : List ℕ) → joinedReason f g (length out) ≡ 0 → drop (length (joined f g)) (joinedAfter f g out) ≡ drop (length (joined f g)) out
+joined-rest = joined-answers.joined-rest
+
+pub joined-refused : (f g out : List ℕ) → joinedReason f g (length out) ≢ 0 → joinedAfter f g out ≡ out
+joined-refused = joined-answers.joined-refused
+
+-- The joined file has one head, one box and one end less than the two together, so an output as long as both is always enough.
+pub joined-length : (f g : List ℕ) (d e : Design) → Joinable f g d e → Bytes f → Bytes g → length (joined f g) + (2 ^ d .m + 15) ≡ length f + length g
+joined-length = joined-lengths.joined-length
+
+pub joined-room : (f g : List ℕ) (room : ℕ) → Bytes f → Bytes g → length f + length g ≤ room → joinedReason f g room ≢ 17
+joined-room = joined-lengths.joined-room
+
+-- ---- 10. Bench. Every starred design of the papers answers as it must; what a component reads is met as often, and files are joined, as rows say.
 
 pub record Bench : Type 0 where
   pub transforms : bench-anf.AllPass bench-anf.rows
@@ -251,6 +304,8 @@ pub record Bench : Type 0 where
   pub productions : map (λ r. producing (r .m) (r .s) (r .table) (length (r .output))) bench-producer.rows ≡ map (λ r. r .answer) bench-producer.rows
   pub lists : directStage 1 3 (1 ∷ 0 ∷ []) .lists ≡ (0 ∷ 2 ∷ []) ∷ (4 ∷ []) ∷ (1 ∷ []) ∷ []
   pub outputs : map (λ r. outputAfter (r .m) (r .s) (r .table) (r .output)) bench-producer.rows ≡ map (λ r. r .after) bench-producer.rows
+  pub joinings : map (λ r. joining (r .first) (r .second) (length (r .output))) bench-joiner.rows ≡ map (λ r. r .answer) bench-joiner.rows
+  pub joined-outputs : map (λ r. joinedAfter (r .first) (r .second) (r .output)) bench-joiner.rows ≡ map (λ r. r .after) bench-joiner.rows
 
 pub bench : Bench
 bench = record {
@@ -265,4 +320,6 @@ bench = record {
   productions = producer-bench.bench-answers;
   lists = direct-bench.bench-lists;
   outputs = producer-bench.bench-outputs;
+  joinings = joiner-bench.bench-answers;
+  joined-outputs = joiner-bench.bench-outputs;
 }

@@ -12,6 +12,7 @@ ghost use Rattle.threshold.specs.Running.{running};
 ghost use Rattle.checker.specs.Verdict.{workspaceAfter};
 ghost use Rattle.checker.specs.Trials.{judging, forecast};
 ghost use Rattle.producer.specs.Producing.{producing, outputAfter};
+ghost use Rattle.joiner.specs.Joining.{joining, joinedAfter};
 ghost use Rattle.jestrunas.specs.Published.{readAnswer};
 
 // Five shares, the greatest number of them, by value; the unused ones are zero.
@@ -66,6 +67,15 @@ pub extern "C" fn jestrunas_produce(m: usize, s: usize, table: &[u8], output: &m
     ensures { λ _. ⌜ now (output .exit) ≡ outputAfter m s (now (table .entry)) (now (output .entry)) ⌝ }
 {
     producer::produce(m, s, table, output)
+}
+
+// Joins two design files into one.
+#[no_mangle]
+pub extern "C" fn jestrunas_join(first: &[u8], second: &[u8], output: &mut [u8]) -> Produced
+    ensures { λ r. ⌜ r ≡ joining (now (first .entry)) (now (second .entry)) (length (now (output .entry))) ⌝ }
+    ensures { λ _. ⌜ now (output .exit) ≡ joinedAfter (now (first .entry)) (now (second .entry)) (now (output .entry)) ⌝ }
+{
+    joiner::join(first, second, output)
 }
 
 // The coefficient words of a table, or the table of coefficient words.

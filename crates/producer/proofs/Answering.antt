@@ -24,7 +24,7 @@ use Rattle.anf.proofs.Answers.{input-answer, transformed-degree}
 use Rattle.design.specs.Limits.{greatestTerms, broken, checked, headAnswer}
 use Rattle.records.specs.inside.Overwriting.{overwrite, noFile}
 use Rattle.design.proofs.Limits.{bounds, head-number}
-use Rattle.records.proofs.Producing.{refusal-answer, refusal-after, success-answer, success-written}
+use Rattle.records.proofs.Producing as rules
 use Rattle.direct.specs.Direct.{isProduct, chosen, componentFor, stands, directList, directLists, directStage, directSharing}
 use Rattle.producer.specs.Producing.{produced, producedReason, producing, outputAfter}
 use Rattle.direct.specs.inside.Expanding.{Follows, Gathers, ruleTables}
@@ -36,24 +36,20 @@ use Rattle.direct.proofs.Gathering.{rule-follows}
 
 -- r is answered, and the output is `after`
 pub record Answered (m s : ℕ) (t out : List ℕ) (r : Produced) (after : List ℕ) : Type 0 where
-  pub answer : r ≡ producing m s t (length out)
-  pub output : after ≡ outputAfter m s t out
+  pub kept : rules.Answered (producedReason m s t (length out)) (produced m s t) out r after
 
 -- the same as a contract has it
 pub answered : {m s : ℕ} {t out : List ℕ} {r : Produced} {after : List ℕ} → Answered m s t out r after → (r ≡ producing m s t (length out)) × (after ≡ outputAfter m s t out)
-answered a = (a .answer, a .output)
+unfolding producing outputAfter
+answered a = (a .kept .answer, a .kept .output)
 
 module _ (m s : ℕ) (t out : List ℕ) where
   pub refuses : (r : Produced) (k : ℕ) → r ≡ noFile k → 0 < k → producedReason m s t (length out) ≡ k → Answered m s t out r out
-  unfolding producing outputAfter
-  refuses r k er p e =
-      let n : producedReason m s t (length out) ≢ 0 = λ z. omega arith in
-      record { answer = er ∙ ap noFile (sym e) ∙ refusal-answer _ (produced m s t) n; output = sym (refusal-after _ (produced m s t) n out) }
+  refuses r k er p e = record { kept = rules.refuses _ (produced m s t) out r k er p e }
 
   pub succeeds : (size : ℕ) (after : List ℕ) → size ≡ length (produced m s t) → producedReason m s t (length out) ≡ 0 → after ≡ overwrite out 0 (produced m s t)
       → Answered m s t out (record { reason = 0; length = size }) after
-  unfolding producing outputAfter
-  succeeds size after es e w = record { answer = rw es (success-answer _ (produced m s t) e); output = w ∙ success-written _ (produced m s t) e out }
+  succeeds size after es e w = record { kept = rules.succeeds _ (produced m s t) out size after es e w }
 
 -- ---- the reasons in their order
 

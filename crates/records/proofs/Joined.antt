@@ -1,7 +1,7 @@
 -- Laws of lists one behind the other.
 use Prim.Native.Nat.{ℕ, zero, suc, _+_, _<_}
 use mathlib.Core.Path.{_≡_, refl, sym, ap, _∙_}
-use mathlib.Core.List.{List, [], _∷_, _++_, append-assoc, append-nil}
+use mathlib.Core.List.{List, [], _∷_, _++_, map, map-append, append-assoc, append-nil}
 use native.Mathlib.Omega.{arith}
 use native.Mathlib.Decide.{decLt}
 use Rattle.finite.specs.Tests.{tabulate}
@@ -12,6 +12,9 @@ pub join-append : (a b : List (List ℕ)) → join (a ++ b) ≡ join a ++ join b
 unfolding join
 join-append [] b = refl
 join-append (x ∷ a) b = ap (λ (l : List ℕ). x ++ l) (join-append a b) ∙ sym (append-assoc x (join a) (join b))
+
+pub join-map-append : {A : Type 0} (k : A → List ℕ) (xs ys : List A) → join (map k (xs ++ ys)) ≡ join (map k xs) ++ join (map k ys)
+join-map-append k xs ys = ap join (map-append k xs ys) ∙ join-append (map k xs) (map k ys)
 
 pub join-last : (a : List (List ℕ)) (x : List ℕ) → join (a ++ (x ∷ [])) ≡ join a ++ x
 unfolding join

@@ -49,6 +49,10 @@ overwrite-is : (l : List ℕ) (at : ℕ) (b : List ℕ) → overwrite l at b ≡
 unfolding overwrite
 overwrite-is l at b = refl
 
+-- one byte
+pub overwrite-one : (l : List ℕ) (at b : ℕ) → at < length l → set l at b ≡ overwrite l at (b ∷ [])
+overwrite-one l at b h = overwrite-sets (b ∷ []) l at (omega arith)
+
 -- nothing written
 pub overwrite-nil : (l : List ℕ) (at : ℕ) → overwrite l at [] ≡ l
 overwrite-nil l at = overwrite-is l at [] ∙ sym (paste-zero l at [])
@@ -88,6 +92,9 @@ overwrite-record l at kind b h = overwrite-append l at (recordHead (length b) ki
 pub record-length : (kind : ℕ) (b : List ℕ) → length (aRecord kind b) ≡ 4 + length b
 unfolding aRecord
 record-length kind b = omega arith
+
+pub two-records-length : (j k : ℕ) (a b : List ℕ) → length (aRecord j a ++ aRecord k b) ≡ 4 + length a + (4 + length b)
+two-records-length j k a b = length-append (aRecord j a) (aRecord k b) ∙ ap₂ _+_ (record-length j a) (record-length k b)
 
 -- one list more, as code counts
 pub join-more : {A : Type 0} (k : A → List ℕ) (xs : List A) (n : ℕ) (d : A) → n < length xs → join (map k (take (n + 1) xs)) ≡ join (map k (take n xs)) ++ k (getD xs n d)

@@ -4,7 +4,7 @@ use mathlib.Core.Path.{_≡_, refl, sym, ap, _∙_}
 use mathlib.Core.Logic.{_≢_}
 use mathlib.Core.Bool.{Bool, true, false}
 use mathlib.Core.List.{List, _++_}
-use Prim.Native.Nat.{ℕ, _≤_}
+use Prim.Native.Nat.{ℕ, _≤_, _<_}
 use native.Mathlib.Omega.{arith}
 use lib.Dec.{eqb}
 use lib.ListN.{length, take, drop, length-append}
@@ -14,6 +14,7 @@ use Rattle.finite.proofs.Testing.{pick-true, pick-false}
 use Rattle.finite.specs.Tests.{pick}
 use Rattle.records.specs.Writing.{writingAnswer, writingAfter}
 use Rattle.records.specs.inside.Overwriting.{overwrite, noFile}
+use Rattle.records.specs.declared.Produced.{Produced}
 use Rattle.records.proofs.Overwriting.{overwrite-front}
 
 module _ (reason : ℕ) (file : List ℕ) where
@@ -58,3 +59,19 @@ module _ (reason : ℕ) (file : List ℕ) where
       at : (b : Bool) → pick b (length file) 0 ≤ length (pick b (file ++ drop (length file) out) out)
       at true = simp length-append (omega arith)
       at false = omega arith
+
+-- ---- as code has it: r is answered, and the output is `after`
+
+pub record Answered (reason : ℕ) (file out : List ℕ) (r : Produced) (after : List ℕ) : Type 0 where
+  pub answer : r ≡ writingAnswer reason file
+  pub output : after ≡ writingAfter reason file out
+
+module _ (reason : ℕ) (file out : List ℕ) where
+  pub refuses : (r : Produced) (k : ℕ) → r ≡ noFile k → 0 < k → reason ≡ k → Answered reason file out r out
+  refuses r k er p e =
+      let n : reason ≢ 0 = λ z. omega arith in
+      record { answer = er ∙ ap noFile (sym e) ∙ refusal-answer reason file n; output = sym (refusal-after reason file n out) }
+
+  pub succeeds : (size : ℕ) (after : List ℕ) → size ≡ length file → reason ≡ 0 → after ≡ overwrite out 0 file
+      → Answered reason file out (record { reason = 0; length = size }) after
+  succeeds size after es e w = record { answer = rw es (success-answer reason file e); output = w ∙ success-written reason file e out }

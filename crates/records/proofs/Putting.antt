@@ -1,7 +1,7 @@
 -- Writing records: what a record and a list take, and that head and body, or head and terms, make the record. Premises stand as the code has them:
 -- o₀ is the output at first, o at a turn, o′ after a step.
 use mathlib.Core.Path.{_≡_, refl, sym, ap, ap₂, _∙_}
-use mathlib.Core.List.{List, [], _∷_, _++_, map, map-append, append-assoc}
+use mathlib.Core.List.{List, [], _∷_, _++_, append-assoc}
 use Prim.Native.Nat.{ℕ, _+_, _*_, _≤_, _<_}
 use native.Mathlib.Nat.{zero-add}
 use native.Mathlib.Numerals.{add-one}
@@ -11,7 +11,7 @@ use lib.Seq.{take-suc, take-length}
 use Rattle.records.specs.Bytes.{four, termBytes}
 use Rattle.records.specs.Records.{join, recordHead, aRecord, listRecord, endRecord}
 use Rattle.records.specs.inside.Overwriting.{overwrite, listRecords}
-use Rattle.records.proofs.Joined.{join-append}
+use Rattle.records.proofs.Joined.{join-map-append}
 use Rattle.records.proofs.TermBytes.{length-termBytes}
 use Rattle.records.proofs.Overwriting.{overwrite-nil, overwrite-append, overwrite-record, record-length, join-more}
 
@@ -27,8 +27,8 @@ module _ (o₀ body : List ℕ) (at kind : ℕ) (h : at + length (aRecord kind b
   pub record-put : (o o′ : List ℕ) → o ≡ overwrite o₀ at (recordHead (length body) kind) → o′ ≡ overwrite o (at + 4) body → o′ ≡ overwrite o₀ at (aRecord kind body)
   record-put o o′ e e′ = e′ ∙ ap (λ (x : List ℕ). overwrite x (at + 4) body) e ∙ overwrite-record o₀ at kind body (omega arith)
 
-pub record-end : (body : List ℕ) (at kind size : ℕ) → size ≡ 4 + length body → at + size ≡ at + length (aRecord kind body)
-record-end body at kind size e = omega (arith, record-length kind body)
+pub record-end : (body : List ℕ) (at kind next : ℕ) → next ≡ at + 4 + length body → next ≡ at + length (aRecord kind body)
+record-end body at kind next e = omega (arith, record-length kind body)
 
 -- ---- the end of a file
 
@@ -93,7 +93,7 @@ list-put o₀ o₁ o l at n j h g e₁ a b e =
 
 records-append : (a b : List (List ℕ)) → listRecords (a ++ b) ≡ listRecords a ++ listRecords b
 unfolding listRecords
-records-append a b = ap join (map-append listRecord a b) ∙ join-append (map listRecord a) (map listRecord b)
+records-append a b = join-map-append listRecord a b
 
 pub records-none : (ls : List (List ℕ)) → listRecords (take 0 ls) ≡ []
 unfolding listRecords join

@@ -17,7 +17,7 @@ pub fn no_file(reason: usize) -> Produced
 }
 
 // Writes a record's head: the length of its body, and its kind.
-fn put_head(out: &mut [u8], at: usize, size: usize, kind: usize)
+pub fn put_head(out: &mut [u8], at: usize, size: usize, kind: usize)
     requires { ⌜ (at + 4 ≤ length (now out)) × (size < 65536) × (kind < 65536) ⌝ }
     ensures { λ _. ⌜ now (out .exit) ≡ overwrite (now (out .entry)) at (recordHead size kind) ⌝ }
 {
@@ -27,12 +27,14 @@ fn put_head(out: &mut [u8], at: usize, size: usize, kind: usize)
     out[at + 3] = (kind / 256) as u8;
 }
 
-// Writes a run of bytes.
-fn put_bytes(out: &mut [u8], at: usize, bytes: &[u8])
+// Writes a run of bytes, and answers where the next starts.
+pub fn put_bytes(out: &mut [u8], at: usize, bytes: &[u8]) -> usize
     requires { ⌜ at + length (now bytes) ≤ length (now out) ⌝ }
+    ensures { λ r. ⌜ r ≡ at + length (now (bytes .entry)) ⌝ }
     ensures { λ _. ⌜ now (out .exit) ≡ overwrite (now (out .entry)) at (now (bytes .entry)) ⌝ }
 {
     copy(bytes, &mut out[at..]);
+    at + bytes.len()
 }
 
 // Writes a term.
@@ -61,8 +63,7 @@ pub fn put_record(out: &mut [u8], at: usize, kind: usize, body: &[u8]) -> usize
     ensures { λ _. ⌜ now (out .exit) ≡ overwrite (now (out .entry)) at (aRecord kind (now (body .entry))) ⌝ }
 {
     put_head(out, at, body.len(), kind);
-    put_bytes(out, at + 4, body);
-    at + record_size(body.len())
+    put_bytes(out, at + 4, body)
 }
 
 // Writes the record of the head's three numbers at the front, and answers where the next starts.

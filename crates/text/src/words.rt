@@ -68,4 +68,13 @@ pub fn print_reason(fd: i32, reason: usize) {
     if reason == 18 {
         io::write_all(fd, b"the input exceeds 32,768 bytes");
     }
+    if reason == 19 {
+        io::write_all(
+            fd,
+            b"the widths or the share counts of the two designs differ",
+        );
+    }
+    if reason == 20 {
+        io::write_all(fd, b"the two designs have more than four stages together");
+    }
 }

@@ -26,7 +26,7 @@ use Rattle.threshold.specs.Chain.{chained, handed, timesPassed, meetings
 use Rattle.threshold.proofs.Sharing.{sum-lt, setting-lt, share-with, one-sharing}
 use Rattle.threshold.proofs.Carried.{Carries, count-carried, carries-none, carries-then}
 use Rattle.threshold.proofs.Tests.{ignores↔}
-use Rattle.threshold.proofs.Stages.{stage-carries, stage-uniform→injective}
+use Rattle.threshold.proofs.Stages.{handed-lt, stage-carries, stage-uniform→injective}
 use Rattle.finite.proofs.Maps.{injective-then}
 
 -- a stage that carries sharings one to one
@@ -54,9 +54,6 @@ module _ (w s : ℕ) where
         injective-then (2 ^ (w * s)) (output (g .lists)) (handed gs i) (c .into)
             (stage-uniform→injective w s g (d .fits) (d .permutation) (d .correct) (d .uniform)) (r .1),
       )
-
-  pub handed-lt : (i : ℕ) (gs : List Stage) → AllBijective w s gs → (σ : ℕ) → σ < 2 ^ (w * s) → handed gs i σ < 2 ^ (w * s)
-  handed-lt i gs v = handed-carries i gs v .0 .into
 
   -- the output shares of the chain sum to what its tables make of the secret
   pub outcome : (gs : List Stage) → AllBijective w s gs → (σ : ℕ) → σ < 2 ^ (w * s)
@@ -92,7 +89,7 @@ passes w zero gs v x i e lx le p = absurd (not-suc-le-zero le)
 passes w (suc s) gs v x i e lx le p =
     by-part-once (2 ^ (w * suc s)) (2 ^ (w * (suc s - 1))) (λ σ. eqb (sum w (suc s) σ) x) (λ σ. setting w e (handed gs i σ)) p
     (λ σ l. subst (λ (k : ℕ). setting w e (handed gs i σ) < 2 ^ (w * k)) (sym (sub-one (suc s)))
-    (setting-lt w s e (handed gs i σ) (le-of-suc-le-suc le) (handed-lt w (suc s) i gs v σ l)))
+    (setting-lt w s e (handed gs i σ) (le-of-suc-le-suc le) (handed-lt w (suc s) i gs (λ t h. v t h .fits .count) σ l)))
     (λ q lq. met-once w (suc s) gs v x i e q lx le lq)
 
 module _ (w s : ℕ) (gs : List Stage) (v : AllBijective w s gs) (x y i : ℕ) (lx : x < 2 ^ w) (ly : y < 2 ^ w) where
@@ -108,7 +105,7 @@ module _ (w s : ℕ) (gs : List Stage) (v : AllBijective w s gs) (x y i : ℕ) (
       of : (z : ℕ) → timesPassed w s gs z i p ≡ timesPassed w s gs z i (λ τ. p (withShare w e 0 τ))
       of z =
           count-congr (2 ^ (w * s)) (λ σ. eqb (sum w s σ) z && p (handed gs i σ)) (λ σ. eqb (sum w s σ) z && p (withShare w e 0 (handed gs i σ)))
-          (λ σ l. ap (λ (b : Bool). eqb (sum w s σ) z && b) (sym (blind (handed gs i σ) (handed-lt w s i gs v σ l) 0 (pow-pos w))))
+          (λ σ l. ap (λ (b : Bool). eqb (sum w s σ) z && b) (sym (blind (handed gs i σ) (handed-lt w s i gs (λ t h. v t h .fits .count) σ l) 0 (pow-pos w))))
 
   -- Such tests are whether a function that ignores a share gives the value z,
   pub value-independent : (f : ℕ → ℕ) (z : ℕ) → IgnoresSome w s f → timesPassed w s gs x i (λ τ. eqb (f τ) z) ≡ timesPassed w s gs y i (λ τ. eqb (f τ) z)

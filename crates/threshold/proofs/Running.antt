@@ -1,9 +1,9 @@
 -- A run on the five bytes of a sharing is the chain sent through. Assumes nothing.
 use mathlib.Core.Path.{_≡_, refl, sym, ap, ap₂, _∙_, subst}
 use mathlib.Core.Bool.{true, false}
-use mathlib.Core.List.{List, [], _∷_}
+use mathlib.Core.List.{List, [], _∷_, _++_}
 use Prim.Native.Nat.{ℕ, zero, suc, _+_, _*_, _^_, _≤_, _<_}
-use native.Mathlib.Nat.{not-suc-le-zero, le-of-suc-le-suc}
+use native.Mathlib.Nat.{not-suc-le-zero, le-of-suc-le-suc, zero-add, suc-add}
 use native.Mathlib.Numerals.{add-one}
 use lib.ListN.{length, getD}
 use Rattle.finite.proofs.Testing.{pick-true, pick-false}
@@ -34,6 +34,12 @@ handed-next gs t σ h = ap (λ (k : ℕ). handed gs k σ) (add-one t) ∙ handed
 pub handed-none : (gs : List Stage) (σ : ℕ) → handed gs 0 σ ≡ σ
 unfolding handed
 handed-none gs σ = refl
+
+-- one chain behind another: past the first, the second is handed what the first gives
+pub handed-append : (a b : List Stage) (i σ : ℕ) → handed (a ++ b) (length a + i) σ ≡ handed b i (handed a (length a) σ)
+unfolding handed
+handed-append [] b i σ = rw zero-add refl
+handed-append (g ∷ a) b i σ = rw suc-add (handed-append a b i (output (g .lists) σ))
 
 -- the five bytes `at` are what the chain makes of the five bytes l up to stage t
 pub record Sent (w s : ℕ) (gs : List Stage) (l at : List ℕ) (t : ℕ) : Type 0 where

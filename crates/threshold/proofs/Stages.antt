@@ -3,16 +3,18 @@
 use mathlib.Core.Path.{_≡_, refl, _∙_, subst}
 use mathlib.Core.Logic.{_↔_}
 use mathlib.Core.Bool.{Bool, true, false, not}
-use mathlib.Core.List.{List}
-use Prim.Native.Nat.{ℕ, _*_, _^_, _<_}
-use lib.ListN.{length}
+use mathlib.Core.List.{List, [], _∷_}
+use Prim.Native.Nat.{ℕ, zero, suc, _*_, _^_, _<_, suc-le-suc}
+use native.Mathlib.Omega.{arith}
+use lib.ListN.{length, getD}
 use Rattle.finite.specs.Maps.{Injective, repeats}
 use Rattle.finite.proofs.Testing.{not-true-false}
 use Rattle.finite.proofs.Maps.{repeats-clash, repeats→injective}
 use Rattle.anf.specs.Tables.{entry, Permutation}
-use Rattle.design.specs.Design.{Stage, StageFits, TableFits}
+use Rattle.design.specs.Design.{Stage, noStage, StageFits, TableFits}
 use Rattle.threshold.specs.Sharing.{share, sum}
 use Rattle.threshold.specs.Stages.{output, component, Correct, Uniform, CountedUniform, uniform}
+use Rattle.threshold.specs.Chain.{handed}
 use Rattle.threshold.proofs.Sharing.{sum-lt, sum-shares}
 use Rattle.threshold.proofs.Output.{output-lt}
 use Rattle.threshold.proofs.Carried.{Carries, even→injective, injective→even, even→counted, counted→even}
@@ -51,6 +53,15 @@ module _ (w s : ℕ) (out : ℕ → ℕ) (g : List ℕ) (into : (σ : ℕ) → �
 
 pub stage-output-lt : (w s : ℕ) (g : Stage) → length (g .lists) ≡ w * s → (σ : ℕ) → output (g .lists) σ < 2 ^ (w * s)
 stage-output-lt w s g size σ = subst (λ (k : ℕ). output (g .lists) σ < 2 ^ k) size (output-lt (g .lists) σ)
+
+-- so what every stage of a chain is handed is a sharing
+pub handed-lt : (w s i : ℕ) (gs : List Stage) → ((t : ℕ) → t < length gs → length (getD gs t noStage .lists) ≡ w * s) → (σ : ℕ) → σ < 2 ^ (w * s)
+    → handed gs i σ < 2 ^ (w * s)
+unfolding handed
+handed-lt w s zero gs size σ l = l
+handed-lt w s (suc i) [] size σ l = l
+handed-lt w s (suc i) (g ∷ gs) size σ l =
+    handed-lt w s i gs (λ t h. size (suc t) (suc-le-suc h)) (output (g .lists) σ) (stage-output-lt w s g (size 0 (omega arith)) σ)
 
 module _ (w s : ℕ) (g : Stage) (fits : StageFits w s g) (perm : Permutation w (g .table)) (right : Correct w s (component w (g .lists)) (g .table)) where
   stage-into : (σ : ℕ) → σ < 2 ^ (w * s) → output (g .lists) σ < 2 ^ (w * s)

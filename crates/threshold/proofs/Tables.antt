@@ -1,6 +1,6 @@
 -- The chain of tables, one table at a time; and where it is a permutation, each table is one. Assumes nothing.
 use mathlib.Core.Path.{_≡_, refl, sym, ap, _∙_}
-use mathlib.Core.List.{List, [], _∷_}
+use mathlib.Core.List.{List, [], _∷_, _++_}
 use Prim.Native.Nat.{ℕ, zero, suc, _+_, _<_, _≤_, suc-le-suc, zero-le}
 use native.Mathlib.Nat.{not-suc-le-zero, le-of-suc-le-suc}
 use native.Mathlib.Numerals.{add-one}
@@ -29,6 +29,12 @@ chained-none gs x = refl
 
 pub chained-all : (gs : List Stage) (t x : ℕ) → t ≡ length gs → chained (take t gs) x ≡ chained gs x
 chained-all gs t x e = ap (λ (l : List Stage). chained l x) (ap (λ (n : ℕ). take n gs) e ∙ take-length gs)
+
+-- one chain behind another
+pub chained-append : (a b : List Stage) (x : ℕ) → chained (a ++ b) x ≡ chained b (chained a x)
+unfolding chained
+chained-append [] b x = refl
+chained-append (g ∷ a) b x = chained-append a b (entry (g .table) x)
 
 -- what the tables make of a number below N is below N
 pub chained-lt : (N : ℕ) (gs : List Stage) → ((t : ℕ) → t < length gs → (x : ℕ) → x < N → entry (getD gs t noStage .table) x < N)

@@ -321,3 +321,25 @@ jestrunas_produced_t NAME(produce)(size_t m, size_t s, const uint8_t *table, siz
     a.length = length;
     return a;
 }
+
+/* The joined file is the first without its end, with the new k and S, and then the second from its first stage on. */
+jestrunas_produced_t NAME(join)(const uint8_t *first, size_t first_len, const uint8_t *second, size_t second_len, uint8_t *out,
+                                size_t out_len) {
+    layout d = {0}, e = {0};
+    jestrunas_produced_t a = {0, 0};
+    a.reason = read_layout(first, first_len, &d).reason;
+    if (a.reason) return a;
+    a.reason = read_layout(second, second_len, &e).reason;
+    if (a.reason) return a;
+    if (d.m != e.m || d.s != e.s) { a.reason = 19; return a; }
+    if (d.k + e.k > 4) { a.reason = 20; return a; }
+    size_t size = (size_t)1 << d.m, stages = 11 + size, end = first_len - 4;
+    size_t length = end + (second_len - stages);
+    if (out_len < length) { a.reason = 17; return a; }
+    memcpy(out, first, end);
+    out[6] = (uint8_t)(d.k + e.k);
+    for (size_t x = 0; x < size; x++) out[11 + x] = second[11 + first[11 + x]];
+    memcpy(out + end, second + stages, second_len - stages);
+    a.length = length;
+    return a;
+}

@@ -5,7 +5,7 @@
 //!     cargo run --release -p bench [-- ROUNDS]
 
 use jestrunas::native::{Forecast, Judged, Produced, Run, Shares, Verdict};
-use reference::samples::{chain, cubic, d, full, six_bits, twenty_share_bits};
+use reference::samples::{chain, cubic, d, full, six_bits, twenty_share_bits, PRESENT_F, PRESENT_G};
 use reference::{encode, Design};
 use std::hint::black_box;
 use std::time::Duration;
@@ -15,6 +15,7 @@ type AskForecast = unsafe extern "C" fn(*const u8, usize) -> Forecast;
 type Judge = unsafe extern "C" fn(*const u8, usize, *mut u8, usize) -> Judged;
 type RunChain = unsafe extern "C" fn(*const u8, usize, Shares) -> Run;
 type Produce = unsafe extern "C" fn(usize, usize, *const u8, usize, *mut u8, usize) -> Produced;
+type Join = unsafe extern "C" fn(*const u8, usize, *const u8, usize, *mut u8, usize) -> Produced;
 type Transform = unsafe extern "C" fn(usize, *const u8, usize, *mut u8, usize) -> usize;
 
 /// One library of operations.
@@ -25,12 +26,13 @@ struct Operations {
     judge: Judge,
     run: RunChain,
     produce: Produce,
+    join: Join,
     transform: Transform,
 }
 
 macro_rules! operations {
     ($module:ident, $name:literal, $read:literal, $forecast:literal, $judge:literal, $run:literal, $produce:literal,
-     $transform:literal) => {
+     $join:literal, $transform:literal) => {
         mod $module {
             use super::*;
             extern "C" {
@@ -51,10 +53,19 @@ macro_rules! operations {
                     output: *mut u8,
                     output_len: usize,
                 ) -> Produced;
+                #[link_name = $join]
+                fn join(
+                    first: *const u8,
+                    first_len: usize,
+                    second: *const u8,
+                    second_len: usize,
+                    output: *mut u8,
+                    output_len: usize,
+                ) -> Produced;
                 #[link_name = $transform]
                 fn transform(m: usize, input: *const u8, input_len: usize, output: *mut u8, output_len: usize) -> usize;
             }
-            pub const OPERATIONS: Operations = Operations { name: $name, read, forecast, judge, run, produce, transform };
+            pub const OPERATIONS: Operations = Operations { name: $name, read, forecast, judge, run, produce, join, transform };
         }
     };
 }
@@ -67,11 +78,22 @@ operations!(
     "jestrunas_judge",
     "jestrunas_run",
     "jestrunas_produce",
+    "jestrunas_join",
     "jestrunas_transform"
 );
-operations!(gcc, "gcc native", "gcc_read", "gcc_forecast", "gcc_judge", "gcc_run", "gcc_produce", "gcc_transform");
-operations!(avx2, "gcc x86-64-v3", "avx2_read", "avx2_forecast", "avx2_judge", "avx2_run", "avx2_produce", "avx2_transform");
-operations!(any, "gcc x86-64", "any_read", "any_forecast", "any_judge", "any_run", "any_produce", "any_transform");
+operations!(gcc, "gcc native", "gcc_read", "gcc_forecast", "gcc_judge", "gcc_run", "gcc_produce", "gcc_join", "gcc_transform");
+operations!(
+    avx2,
+    "gcc x86-64-v3",
+    "avx2_read",
+    "avx2_forecast",
+    "avx2_judge",
+    "avx2_run",
+    "avx2_produce",
+    "avx2_join",
+    "avx2_transform"
+);
+operations!(any, "gcc x86-64", "any_read", "any_forecast", "any_judge", "any_run", "any_produce", "any_join", "any_transform");
 #[cfg(clang)]
 operations!(
     clang,
@@ -81,6 +103,7 @@ operations!(
     "clang_judge",
     "clang_run",
     "clang_produce",
+    "clang_join",
     "clang_transform"
 );
 
@@ -187,6 +210,26 @@ fn main() {
             });
             assert_eq!(output[..file.len()], file);
         }
+    }
+    let [mut first_half, mut second_half] = [full(), full()];
+    first_half.stages.truncate(2);
+    second_half.stages.drain(..2);
+    for (name, first, second, due) in [
+        ("PRESENT, G and F", chain(4, 3, &[&PRESENT_G]), chain(4, 3, &[&PRESENT_F]), chain(4, 3, &[&PRESENT_G, &PRESENT_F])),
+        ("full file, its halves", first_half, second_half, full()),
+    ] {
+        let [first, second, due] = [first, second, due].map(|design| encode(&design));
+        let call = |o: &Operations, output: &mut [u8]| unsafe {
+            (o.join)(first.as_ptr(), first.len(), second.as_ptr(), second.len(), output.as_mut_ptr(), output.len())
+        };
+        for operations in &all {
+            output.fill(0);
+            assert_eq!(call(operations, &mut output), Produced { reason: 0, length: due.len() }, "{name}, {}", operations.name);
+            assert_eq!(output[..due.len()], due, "{name}, {}", operations.name);
+        }
+        row(&format!("{name} ({} and {} bytes)", first.len(), second.len()), "join", &all, rounds, |o| {
+            assert_eq!(black_box(call(o, &mut output)).length, due.len());
+        });
     }
     for m in 1..=6 {
         let entries = 1 << m;

@@ -4,8 +4,8 @@
 //!     compare [FILES [SEED]]
 //!
 //! FILES is the number of generated files, 200,000 unless said. The last lines count what was compared; the exit
-//! status is 1 at a difference (printed with the file and both answers), or where a reason, a place where trials stop, or a way in which
-//! components ignore shares (`Ignored`) never occurred.
+//! status is 1 at a difference (printed with the file and both answers), or where a reason, a place where trials stop, a way in which
+//! components ignore shares (`Ignored`), or two refusals of joining at once (`Together`) never occurred.
 
 use compare::depend::{changed_by, shares_read};
 use compare::hex;
@@ -13,7 +13,7 @@ use compare::lent::{self, Lent};
 use compare::make::{self, D, SIZES};
 use compare::random::Random;
 use jestrunas::{native, PRODUCED_MAX, WORKSPACE_MAX};
-use reference::samples::one_bit;
+use reference::samples::{chain, one_bit};
 use reference::{encode, Answer, Design, Shares};
 use std::fmt::Debug;
 use std::time::Instant;
@@ -21,7 +21,7 @@ use std::time::Instant;
 /// Counts of the reasons that an operation answered.
 #[derive(Default)]
 struct Counts {
-    by_reason: [usize; 19],
+    by_reason: [usize; 21],
 }
 
 impl Counts {
@@ -34,7 +34,7 @@ impl Counts {
     }
 
     fn say(&self, what: &str, due: &[usize]) -> bool {
-        let seen: Vec<String> = (0..19)
+        let seen: Vec<String> = (0..21)
             .filter(|&r| self.by_reason[r] > 0 || due.contains(&r))
             .map(|r| format!("{r}:{}", self.by_reason[r]))
             .collect();
@@ -123,9 +123,73 @@ impl Ignored {
     }
 }
 
+/// The refusals of joining in the published order, and how often a call had grounds for two different ones: for the one in the row,
+/// which is then due, and for the later one in the column.
+#[derive(Default)]
+struct Together {
+    calls: [[usize; 5]; 5],
+}
+
+impl Together {
+    const REFUSALS: [&str; 5] = ["the first", "the second", "19", "20", "17"];
+
+    /// A call with these files, whose refusals of reading are known. Sizes and stages are those of the heads, where both read. An output
+    /// shorter than each of the files is too short for what is joined of them, which is longer than each.
+    fn add(&mut self, [first, second]: [&[u8]; 2], unreadable: [Option<usize>; 2], length: usize) {
+        let heads = reference::forecast(first)[0] == 0 && reference::forecast(second)[0] == 0;
+        let grounds = [
+            unreadable[0],
+            unreadable[1],
+            (heads && first[4..6] != second[4..6]).then_some(19),
+            (heads && first[6] + second[6] > 4).then_some(20),
+            (length < first.len().min(second.len())).then_some(17),
+        ];
+        for (i, earlier) in grounds.iter().enumerate() {
+            for (j, later) in grounds.iter().enumerate().skip(i + 1) {
+                self.calls[i][j] += usize::from(earlier.is_some() && later.is_some() && earlier != later);
+            }
+        }
+    }
+
+    fn say(&self) -> bool {
+        let mut complete = true;
+        for (i, earlier) in Together::REFUSALS.iter().enumerate() {
+            let later: Vec<String> = (i + 1..5).map(|j| format!("{}:{}", Together::REFUSALS[j], self.calls[i][j])).collect();
+            if !later.is_empty() {
+                println!("join, refused for {earlier} with grounds for a later refusal too: {}", later.join(" "));
+            }
+            complete &= self.calls[i][i + 1..].iter().all(|&calls| calls > 0);
+        }
+        if !complete {
+            println!("join: two refusals never came together");
+        }
+        complete
+    }
+}
+
+/// What was asked of files that were joined.
+#[derive(Default)]
+struct Joined {
+    files: usize,
+    accepted: usize,
+    runs: Counts,
+}
+
+impl Joined {
+    fn say(&self) -> bool {
+        let Joined { files, accepted, runs } = self;
+        println!("joined: {files} files judged, {accepted} of two accepted designs");
+        if *accepted == 0 {
+            println!("joined: two accepted designs never came together");
+        }
+        runs.say("run, joined and one after the other", &[0, 15]) && *accepted > 0
+    }
+}
+
 struct Comparison {
     random: Random,
     file: Lent,
+    second: Lent,
     lent: Lent,
     sides: Option<[bool; 2]>,
     files: usize,
@@ -143,6 +207,10 @@ struct Comparison {
     produced: Counts,
     transforms: Counts,
     twice: usize,
+    /// Calls of joining where the first file does not read, where only the second does not, and where both read.
+    joins: [Counts; 3],
+    together: Together,
+    joined: Joined,
 }
 
 impl Comparison {
@@ -150,6 +218,7 @@ impl Comparison {
         Comparison {
             random: Random::new(seed),
             file: Lent::new(2_000_000),
+            second: Lent::new(2_000_000),
             lent: Lent::new(200_000),
             sides: None,
             files: 0,
@@ -167,6 +236,9 @@ impl Comparison {
             produced: Counts::default(),
             transforms: Counts::default(),
             twice: 0,
+            joins: Default::default(),
+            together: Together::default(),
+            joined: Joined::default(),
         }
     }
 
@@ -186,6 +258,12 @@ impl Comparison {
     fn lend_file(&mut self, file: &[u8]) {
         let at_end = self.sides.map_or_else(|| !self.random.once_in(4), |[file, _]| file);
         self.file.put(file, at_end);
+    }
+
+    /// Lends a second file in the same way.
+    fn lend_second(&mut self, file: &[u8]) {
+        let at_end = self.sides.map_or_else(|| !self.random.once_in(4), |[file, _]| file);
+        self.second.put(file, at_end);
     }
 
     /// Lends a workspace or an output in the same way.
@@ -245,6 +323,19 @@ impl Comparison {
             14 => self.uniformity.add(trials - (2 * stage - 1) * sharings, sharings),
             _ => {}
         }
+    }
+
+    /// Shares to run a chain on, of which one may be out of range.
+    fn shares(&mut self, m: usize, s: usize) -> Shares {
+        let mut shares = [0; 5];
+        for share in &mut shares[..s] {
+            *share = self.random.below(1 << m) as u8;
+        }
+        if self.random.once_in(6) {
+            let j = self.random.below(5);
+            shares[j] = self.random.pick(&[1, 1 << m, (1 << m) + 1, 128, 255]);
+        }
+        shares
     }
 
     fn run(&mut self, file: &[u8], shares: Shares) {
@@ -310,14 +401,7 @@ impl Comparison {
                     self.assured(design, file);
                 }
                 for _ in 0..2 {
-                    let mut shares = [0; 5];
-                    for share in &mut shares[..s] {
-                        *share = self.random.below(1 << m) as u8;
-                    }
-                    if self.random.once_in(6) {
-                        let j = self.random.below(5);
-                        shares[j] = self.random.pick(&[1, 1 << m, (1 << m) + 1, 128, 255]);
-                    }
+                    let shares = self.shares(m, s);
                     self.run(file, shares);
                 }
             }
@@ -493,12 +577,99 @@ impl Comparison {
         self.twice += 1;
     }
 
+    /// Joining two files into an output of this length, which holds anything before. A file that is joined with itself may be lent once.
+    fn compare_join(&mut self, first: &[u8], second: &[u8], length: usize) -> Option<Vec<u8>> {
+        let both = [first, second].concat();
+        let what = format!("join, {} bytes and {}, output of {length}", first.len(), second.len());
+        let before = self.random.bytes(length);
+        self.lend(&before);
+        self.lend_file(first);
+        self.lend_second(second);
+        lent::remember(&both);
+        let once = first == second && self.random.once_in(2);
+        let files: [&[u8]; 2] = [self.file.slice(), self.second.slice()];
+        let p = native::join(files[0], files[usize::from(!once)], self.lent.slice());
+        let mut after = before;
+        let due = reference::join(first, second, &mut after);
+        if (p.reason, p.length) != due {
+            self.differs(&what, &both, p, due);
+        }
+        if !self.lent.is(&after) {
+            let now = self.lent.slice().to_vec();
+            self.differs(&format!("{what}: its bytes"), &both, hex(&now), hex(&after));
+        }
+        if !self.file.is(first) || !self.second.is(second) {
+            self.differs(&format!("{what}: the files are only read"), &both, "", "");
+        }
+        let unreadable = [first, second].map(|file| reference::read(file).err().map(|fault| fault.reason));
+        self.joins[unreadable.iter().position(Option::is_some).unwrap_or(2)].add(due.0);
+        self.together.add([first, second], unreadable, length);
+        after.truncate(due.1);
+        (due.0 == 0).then_some(after)
+    }
+
+    /// Joining two files into an output that is enough, into none, and, where they join, into one of every length near that of the joined
+    /// file.
+    fn compare_joins(&mut self, first: &[u8], second: &[u8]) -> Option<Vec<u8>> {
+        let joined = self.compare_join(first, second, first.len() + second.len());
+        self.compare_join(first, second, 0);
+        if let Some(file) = &joined {
+            for length in file.len() - 2..=file.len() + 2 {
+                self.compare_join(first, second, length);
+            }
+        }
+        joined
+    }
+
+    /// Joining two generated files. Of some that join: the joined file is accepted where both are, and a run of it is a run of the second
+    /// on what the first gives; and everything that is asked about a file.
+    fn join(&mut self) {
+        let [first, second] = make::pair(&mut self.random);
+        let Some(file) = self.compare_joins(&first, &second) else { return };
+        let (m, s) = (usize::from(file[4]), usize::from(file[5]));
+        if m * s > 12 || !self.random.once_in(4) {
+            return;
+        }
+        self.joined.files += 1;
+        if let (Ok(one), Ok(other)) = (jestrunas::judge(&first), jestrunas::judge(&second)) {
+            let due = [0, one.stages + other.stages, 0];
+            let numbers = jestrunas::numbers(&jestrunas::judge(&file));
+            if numbers != due {
+                self.differs("two accepted designs joined", &file, numbers, due);
+            }
+            self.joined.accepted += 1;
+        }
+        for _ in 0..4 {
+            let shares = self.shares(m, s);
+            let due = jestrunas::run(&first, shares).and_then(|between| jestrunas::run(&second, between));
+            let answer = jestrunas::run(&file, shares);
+            if answer != due {
+                self.differs(&format!("what is joined run on {shares:?}"), &file, answer, due);
+            }
+            self.joined.runs.add(due.map_or_else(|reason| reason.number(), |_| 0));
+        }
+        self.compare_file(&file);
+    }
+
+    /// Every two sizes and numbers of stages, the identity in each stage.
+    fn pairs(&mut self) {
+        let designs: Vec<Vec<u8>> =
+            SIZES.iter().flat_map(|&(m, s)| (1..=4).map(move |k| encode(&make::identity(m, s, k)))).collect();
+        for first in &designs {
+            for second in &designs {
+                self.compare_joins(first, second);
+            }
+        }
+    }
+
     /// Each operation with what is lent beside the pages that nobody may touch, on every side, in every length near the one due.
     fn edges(&mut self) {
         let table = [0, 1, 2, 3, 4, 5, 7, 6];
         let mut box3 = vec![0; PRODUCED_MAX];
         let (_, length) = reference::produce(3, 3, &table, &mut box3);
         box3.truncate(length);
+        // to be joined with it: a box that does not commute with it
+        let other = encode(&chain(3, 3, &[&[0, 1, 2, 4, 3, 6, 7, 5]]));
         for sides in [[true, true], [true, false], [false, true], [false, false]] {
             self.sides = Some(sides);
             for whole in [&D[..], &box3] {
@@ -512,6 +683,12 @@ impl Comparison {
             }
             for length in 0..table.len() {
                 self.compare_produce(3, 3, &table[..length], PRODUCED_MAX);
+            }
+            for length in 0..box3.len() + other.len() {
+                self.compare_join(&box3, &other, length);
+                self.compare_join(&box3[..length.min(box3.len())], &other, length);
+                self.compare_join(&box3, &other[..length.min(other.len())], length);
+                self.compare_join(&D[..length.min(D.len())], &other[..length.min(other.len())], length);
             }
             for m in 1..=6 {
                 let input: Vec<u8> = (0..1 << m).rev().collect();
@@ -527,7 +704,7 @@ impl Comparison {
         self.sides = None;
     }
 
-    /// Every single byte of D changed, and lists of about as many terms as there may be.
+    /// Every single byte of D changed, and lists of about as many terms as there may be, also joined.
     fn changes(&mut self) {
         for at in 0..D.len() {
             for value in 0..=255 {
@@ -541,6 +718,7 @@ impl Comparison {
                 let file = make::long_list(&mut self.random, m, s, terms);
                 self.compare_file(&file);
                 self.compare_file(&file[..file.len() / 2]);
+                self.compare_joins(&file, &file);
             }
         }
     }
@@ -671,6 +849,9 @@ impl Comparison {
             if self.random.once_in(2) {
                 self.produce();
             }
+            if self.random.once_in(2) {
+                self.join();
+            }
         }
     }
 }
@@ -686,9 +867,10 @@ fn main() {
     c.changes();
     c.affine();
     c.heads();
+    c.pairs();
     c.large();
     println!(
-        "edges, changes, affine designs of one bit, heads and large designs: {} files, {:.1} s",
+        "edges, changes, affine designs of one bit, heads, pairs and large designs: {} files, {:.1} s",
         c.files,
         start.elapsed().as_secs_f64()
     );
@@ -714,6 +896,11 @@ fn main() {
     complete &= c.produced.say("produce", &[0, 3, 4, 5, 8, 16, 17]);
     complete &= c.transforms.say("transform", &[0, 3, 4, 5, 17]);
     println!("transform: {} outputs of the library transformed again", c.twice);
+    complete &= c.joins[0].say("join, the first does not read", &[1, 2, 3, 4, 5, 6, 7]);
+    complete &= c.joins[1].say("join, the second does not read", &[1, 2, 3, 4, 5, 6, 7]);
+    complete &= c.joins[2].say("join, both read", &[0, 17, 19, 20]);
+    complete &= c.together.say();
+    complete &= c.joined.say();
     println!("assurance: {} accepted designs run on every sharing of every secret", c.assured);
     println!(
         "seed {seed}: {} files ({} readable), {} differences, {:.1} s",

@@ -321,6 +321,22 @@ pub fn damaged(random: &mut Random, file: &[u8]) -> Vec<u8> {
     file
 }
 
+/// Two files to join. Most have one size and up to four stages together, and read; another size, more stages and damage may come together.
+pub fn pair(random: &mut Random) -> [Vec<u8>; 2] {
+    let one_size = size(random);
+    let other_size = if random.once_in(6) { size(random) } else { one_size };
+    let one_k = random.pick(&[1, 1, 1, 2, 2, 3, 3, 4]);
+    let other_k = if one_k == 4 || random.once_in(6) { 5 - one_k + random.below(one_k) } else { 1 + random.below(4 - one_k) };
+    [(one_size, one_k), (other_size, other_k)].map(|((m, s), k)| {
+        let file = encode(&design(random, m, s, k));
+        if random.once_in(5) {
+            damaged(random, &file)
+        } else {
+            file
+        }
+    })
+}
+
 /// A readable file of the largest lists: `terms` of them in one list, and it may be one too long to say so.
 pub fn long_list(random: &mut Random, m: usize, s: usize, terms: usize) -> Vec<u8> {
     let mut file = encode(&identity(m, s, 1));

@@ -13,6 +13,10 @@
 //! assert_eq!((accepted.stages, accepted.trials), (1, 16));
 //! assert_eq!(jestrunas::run(&design, [1, 0, 0, 0, 0]), Ok([0, 0, 1, 0, 0]));
 //!
+//! let twice = jestrunas::join(&design, &design).unwrap();
+//! assert_eq!(jestrunas::judge(&twice).unwrap().stages, 2);
+//! assert_eq!(jestrunas::run(&twice, [1, 0, 0, 0, 0]), Ok([0, 1, 0, 0, 0]));
+//!
 //! let refusal = jestrunas::judge(&design[..40]).unwrap_err();
 //! assert_eq!(refusal.reason, jestrunas::Reason::CutShort);
 //! assert_eq!(refusal.to_string(), "1 35 0: the record at byte 35 is cut short");
@@ -62,11 +66,15 @@ pub enum Reason {
     OutputTooShort = 17,
     /// The verdict program's input exceeds 32,768 bytes. The library never answers this.
     InputTooLong = 18,
+    /// The widths or the share counts of two designs to join differ.
+    SharesDiffer = 19,
+    /// Two designs to join have more than four stages together.
+    TooManyStages = 20,
 }
 
 impl Reason {
     /// Every reason, by its number.
-    pub const ALL: [Reason; 18] = [
+    pub const ALL: [Reason; 20] = [
         Reason::CutShort,
         Reason::WrongKind,
         Reason::WrongLength,
@@ -85,6 +93,8 @@ impl Reason {
         Reason::DegreeTooHigh,
         Reason::OutputTooShort,
         Reason::InputTooLong,
+        Reason::SharesDiffer,
+        Reason::TooManyStages,
     ];
 
     /// The published number.
@@ -92,7 +102,7 @@ impl Reason {
         self as usize
     }
 
-    /// The reason with a published number, 1 to 18.
+    /// The reason with a published number, 1 to 20.
     pub fn from_number(number: usize) -> Option<Reason> {
         Reason::ALL.get(number.checked_sub(1)?).copied()
     }
@@ -119,6 +129,8 @@ impl fmt::Display for Reason {
             Reason::DegreeTooHigh => "the degree is the number of shares or more",
             Reason::OutputTooShort => "the result does not fit the output",
             Reason::InputTooLong => "the input exceeds 32,768 bytes",
+            Reason::SharesDiffer => "the widths or the share counts of the two designs differ",
+            Reason::TooManyStages => "the two designs have more than four stages together",
         })
     }
 }
@@ -258,6 +270,24 @@ pub fn produce_in(m: usize, s: usize, table: &[u8], output: &mut [u8]) -> Result
     reason(answer.reason).map_or(Ok(answer.length), Err)
 }
 
+/// Two design files joined into one: S of the second after S of the first; the stages of the first, then those of the second. Both need
+/// only read; where both are accepted, so is the joined one. A refusal of reading, reasons 1 to 7, is that of the first file or, where this
+/// one reads, that of the second.
+pub fn join(first: &[u8], second: &[u8]) -> Result<Vec<u8>, Reason> {
+    // always enough: of the two heads, the two boxes and the two ends the joined file has one each
+    let mut output = vec![0; first.len() + second.len()];
+    let length = join_in(first, second, &mut output)?;
+    output.truncate(length);
+    Ok(output)
+}
+
+/// Two design files joined into one, written to a lent output: its length. The bytes past it are untouched, and a refusal leaves the whole
+/// output untouched.
+pub fn join_in(first: &[u8], second: &[u8], output: &mut [u8]) -> Result<usize, Reason> {
+    let answer = native::join(first, second, output);
+    reason(answer.reason).map_or(Ok(answer.length), Err)
+}
+
 /// The transform between a table and the coefficient words of its algebraic normal form: of a table it writes the coefficient words, of
 /// coefficient words the table, to the first 2^m bytes of the output. What is written, transformed again, gives the input. The bytes past it
 /// are untouched, and a refusal leaves the whole output untouched.
@@ -276,7 +306,7 @@ mod tests {
             assert_eq!(Reason::from_number(i + 1), Some(*reason));
         }
         assert_eq!(Reason::from_number(0), None);
-        assert_eq!(Reason::from_number(19), None);
+        assert_eq!(Reason::from_number(21), None);
     }
 
     /// The number that the C header gives a name.
@@ -335,7 +365,38 @@ mod tests {
         assert_eq!(forecast(&[]), Err(Reason::CutShort));
         assert_eq!(produce(4, 2, &[]), Err(Reason::LimitBroken));
         assert_eq!(run(&[], [0; 5]), Err(Reason::CutShort));
+        assert_eq!(join(&[], &[]), Err(Reason::CutShort));
         assert_eq!(transform(1, &[0, 1], &mut [0]), Err(Reason::OutputTooShort));
+    }
+
+    #[test]
+    fn the_two_stages_of_present_are_joined() {
+        let present: &[u8] = include_bytes!("../../../designs/present.bin");
+        let [g, f]: [&[u8]; 2] =
+            [include_bytes!("../../../designs/present_g.bin"), include_bytes!("../../../designs/present_f.bin")];
+        assert_eq!(join(g, f).unwrap(), present);
+        assert_ne!(join(f, g).unwrap(), present);
+        assert_eq!(judge(&join(f, g).unwrap()), Ok(Accepted { stages: 2, trials: 16_384 }));
+
+        let mut output = vec![9; present.len() + 1];
+        assert_eq!(join_in(g, f, &mut output), Ok(present.len()));
+        assert_eq!(output, [present, &[9]].concat());
+        let mut output = vec![9; present.len() - 1];
+        assert_eq!(join_in(g, f, &mut output), Err(Reason::OutputTooShort));
+        assert!(output.iter().all(|&byte| byte == 9));
+    }
+
+    #[test]
+    fn what_does_not_join_is_refused() {
+        let present: &[u8] = include_bytes!("../../../designs/present.bin");
+        let four_stages = join(present, present).unwrap();
+        assert_eq!(join(&four_stages, present), Err(Reason::TooManyStages));
+        let other_width = produce(3, 3, &[0, 1, 2, 3, 4, 5, 7, 6]).unwrap();
+        assert_eq!(join(&four_stages, &other_width), Err(Reason::SharesDiffer));
+        let other_count = produce(4, 4, &(0..16).collect::<Vec<u8>>()).unwrap();
+        assert_eq!(join(&other_count, present), Err(Reason::SharesDiffer));
+        assert_eq!(join(present, &[0, 0, 1, 0]), Err(Reason::WrongLength));
+        assert_eq!(join(&[0; 4], &[0, 0, 1, 0]), Err(Reason::WrongKind));
     }
 
     #[test]

@@ -52,6 +52,14 @@ extern "C" {
     fn jestrunas_judge(file: *const u8, file_len: usize, workspace: *mut u8, workspace_len: usize) -> Judged;
     fn jestrunas_run(file: *const u8, file_len: usize, shares: Shares) -> Run;
     fn jestrunas_produce(m: usize, s: usize, table: *const u8, table_len: usize, output: *mut u8, output_len: usize) -> Produced;
+    fn jestrunas_join(
+        first: *const u8,
+        first_len: usize,
+        second: *const u8,
+        second_len: usize,
+        output: *mut u8,
+        output_len: usize,
+    ) -> Produced;
     fn jestrunas_transform(m: usize, input: *const u8, input_len: usize, output: *mut u8, output_len: usize) -> usize;
 }
 
@@ -73,6 +81,10 @@ pub fn run(file: &[u8], shares: [u8; 5]) -> Run {
 
 pub fn produce(m: usize, s: usize, table: &[u8], output: &mut [u8]) -> Produced {
     unsafe { jestrunas_produce(m, s, table.as_ptr(), table.len(), output.as_mut_ptr(), output.len()) }
+}
+
+pub fn join(first: &[u8], second: &[u8], output: &mut [u8]) -> Produced {
+    unsafe { jestrunas_join(first.as_ptr(), first.len(), second.as_ptr(), second.len(), output.as_mut_ptr(), output.len()) }
 }
 
 pub fn transform(m: usize, input: &[u8], output: &mut [u8]) -> usize {

@@ -3,12 +3,14 @@
 //! component is a function that is called at every sharing, and each property is tested as the papers word it.
 
 mod design;
+mod join;
 mod judge;
 mod produce;
 pub mod samples;
 mod transform;
 
 pub use design::{encode, read, Design, Fault, Product, Shares, Stage};
+pub use join::join;
 pub use judge::{forecast, judge, run, verdict};
 pub use produce::{direct_sharing, produce};
 pub use transform::transform;

@@ -52,6 +52,15 @@ fn degree(m: usize, table: &[u8]) -> usize {
     (0..1 << m).filter(|&term: &usize| coefficient(table, term) != 0).map(|term| term.count_ones() as usize).max().unwrap_or(0)
 }
 
+/// The rules for producing, once there is a file: the number and the length, and the file stands in the output where it fits.
+pub(crate) fn written(file: &[u8], output: &mut [u8]) -> (usize, usize) {
+    if file.len() > output.len() {
+        return (17, 0);
+    }
+    output[..file.len()].copy_from_slice(file);
+    (0, file.len())
+}
+
 /// Produces a file: the number and the length. The output becomes what the papers say it is afterwards.
 pub fn produce(m: usize, s: usize, table: &[u8], output: &mut [u8]) -> (usize, usize) {
     if !within_limits(m, s) {
@@ -70,10 +79,5 @@ pub fn produce(m: usize, s: usize, table: &[u8], output: &mut [u8]) -> (usize, u
         return (16, 0);
     }
     let stage = direct_sharing(m, s, table);
-    let file = encode(&Design { m, s, table: table.to_vec(), stages: vec![stage] });
-    if file.len() > output.len() {
-        return (17, 0);
-    }
-    output[..file.len()].copy_from_slice(&file);
-    (0, file.len())
+    written(&encode(&Design { m, s, table: table.to_vec(), stages: vec![stage] }), output)
 }

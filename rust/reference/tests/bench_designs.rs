@@ -4,7 +4,7 @@ use reference::samples::{
     bits_apart, chain, cubic, d, full, keccak_row, leaking, linear, one_bit, six_bits, twenty_share_bits, PRESENT, PRESENT_F,
     PRESENT_G,
 };
-use reference::{encode, forecast, judge, produce, read, repeats, run, transform, Answer, Product};
+use reference::{encode, forecast, join, judge, produce, read, repeats, run, transform, Answer, Product};
 
 const D: [u8; 47] = [
     3, 0, 1, 0, 1, 3, 1, 2, 0, 2, 0, 0, 1, 2, 0, 2, 0, 0, 1, 4, 0, 3, 0, 2, 0, 0, 0, 4, 0, 3, 0, 4, 0, 0, 0, 4, 0, 3, 0, 1, 0, 0,
@@ -148,6 +148,74 @@ fn producing() {
     assert_eq!(verdict(&produced(3, 3, &digits("01243675")).unwrap()), [14, 1, 0, 650]);
     assert_eq!(produced(4, 3, &cubic()), Err(16));
     assert_eq!(verdict(&produced(4, 4, &cubic()).unwrap()), [0, 1, 0, 131_072]);
+}
+
+fn joined(first: &[u8], second: &[u8]) -> Result<Vec<u8>, usize> {
+    let mut output = vec![0; first.len() + second.len()];
+    let (reason, length) = join(first, second, &mut output);
+    output.truncate(length);
+    if reason == 0 {
+        Ok(output)
+    } else {
+        Err(reason)
+    }
+}
+
+#[test]
+fn joining() {
+    let [g, f] = [PRESENT_G, PRESENT_F].map(|table| encode(&chain(4, 3, &[&table])));
+    let present = encode(&chain(4, 3, &[&PRESENT_G, &PRESENT_F]));
+    assert_eq!(joined(&g, &f), Ok(present.clone()));
+    assert_eq!(joined(&f, &g), Ok(encode(&chain(4, 3, &[&PRESENT_F, &PRESENT_G]))));
+    // one head, one box and one end fewer
+    assert_eq!(present.len(), g.len() + f.len() - (16 + 15));
+    // shares go through the seam as they are
+    for shares in [[1, 2, 3, 0, 0], [15, 0, 7, 0, 0]] {
+        assert_eq!(run(&present, shares), run(&f, run(&g, shares).1));
+    }
+
+    let mut output = vec![9; present.len() + 2];
+    assert_eq!(join(&g, &f, &mut output), (0, present.len()));
+    assert_eq!(output, [&present[..], &[9, 9]].concat());
+    let mut output = vec![9; present.len() - 1];
+    assert_eq!(join(&g, &f, &mut output), (17, 0));
+    assert!(output.iter().all(|&byte| byte == 9));
+}
+
+#[test]
+fn joining_asks_only_that_both_read() {
+    // S of the first repeats an entry and is not its chain; the second is not correct
+    let mut first = d();
+    first.table = vec![1, 1];
+    let mut second = one_bit([&[2], &[4], &[]]);
+    second.table = vec![1, 0];
+    let file = joined(&encode(&first), &encode(&second)).unwrap();
+    let design = read(&file).unwrap();
+    assert_eq!((design.m, design.s, &design.table[..]), (1, 3, &[0, 0][..]));
+    assert_eq!(design.stages, [first.stages, second.stages].concat());
+}
+
+#[test]
+fn refusals_of_joining() {
+    let stages = |m: usize, s: usize, k: usize| {
+        let identity: Vec<u8> = (0..1 << m).collect();
+        encode(&chain(m, s, &vec![&identity[..]; k]))
+    };
+    for k in 1..4 {
+        assert!(joined(&stages(2, 3, k), &stages(2, 3, 4 - k)).is_ok());
+        assert_eq!(joined(&stages(2, 3, k), &stages(2, 3, 5 - k)), Err(20));
+    }
+    // 19 before 20 before 17; as many share bits, otherwise shared
+    assert_eq!(joined(&stages(2, 3, 4), &stages(3, 3, 4)), Err(19));
+    assert_eq!(joined(&stages(2, 3, 4), &stages(2, 4, 4)), Err(19));
+    assert_eq!(joined(&stages(4, 3, 1), &stages(3, 4, 1)), Err(19));
+    assert_eq!(join(&stages(2, 3, 4), &stages(3, 3, 4), &mut []), (19, 0));
+    assert_eq!(join(&stages(2, 3, 4), &stages(2, 3, 4), &mut []), (20, 0));
+    assert_eq!(join(&D, &D, &mut []), (17, 0));
+    // the first file before the second, and both before 19
+    assert_eq!(joined(&D[..46], &[3, 0, 2, 0]), Err(1));
+    assert_eq!(joined(&[3, 0, 2, 0], &D[..46]), Err(2));
+    assert_eq!(joined(&stages(2, 3, 4), &D[..46]), Err(1));
 }
 
 #[test]

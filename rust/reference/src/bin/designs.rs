@@ -13,6 +13,8 @@ fn main() -> std::io::Result<()> {
         ("d.bin", d()),
         ("box3.bin", chain(3, 3, &[&[0, 1, 2, 3, 4, 5, 7, 6]])),
         ("present.bin", chain(4, 3, &[&PRESENT_G, &PRESENT_F])),
+        ("present_g.bin", chain(4, 3, &[&PRESENT_G])),
+        ("present_f.bin", chain(4, 3, &[&PRESENT_F])),
         ("keccak3.bin", chain(5, 3, &[&keccak])),
         ("keccak4.bin", keccak_uniform()),
         ("linear.bin", linear()),

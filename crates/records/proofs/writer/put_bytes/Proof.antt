@@ -13,4 +13,5 @@ put-bytes-spec =
     (λ c. search needs)
     (λ c κs. search needs)
     (λ c. search needs)
-    (λ c. search part-copied))
+    (λ c. search needs)
+    (λ c. (search needs, search part-copied)))

@@ -13,12 +13,6 @@ add-put-bytes c = search needs
 put-bytes-requires : tie.Need-put-bytes-requires
 put-bytes-requires c κs = search body-room
 
-record-size-requires : tie.Need-record-size-requires
-record-size-requires c κs = search
-
-add-result : tie.Need-add-result
-add-result c = search needs
-
 same-length : tie.Need-same-length
 same-length c = search needs
 
@@ -32,7 +26,5 @@ put-record-spec =
     put-head-requires
     add-put-bytes
     put-bytes-requires
-    record-size-requires
-    add-result
     same-length
     returns)
