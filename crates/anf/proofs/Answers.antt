@@ -23,8 +23,8 @@ pub record Answered (m : ℕ) (t out : List ℕ) (r : ℕ) (after : List ℕ) : 
   pub reason : r ≡ transform_reason m t (length out)
   pub left : after ≡ transform_after m t out
 
-pub answered : {m : ℕ} {t out : List ℕ} {r : ℕ} {after : List ℕ} → Answered m t out r after → (r ≡ transform_reason m t (length out)) × (after ≡ transform_after m t out)
-answered a = (a.reason, a.left)
+pub answered : {m : ℕ} {t out : List ℕ} {r : ℕ} {after : List ℕ} → Answered m t out r after → record { value : r ≡ transform_reason m t (length out); output_after : after ≡ transform_after m t out }
+answered a = record { value = a.reason; output_after = a.left }
 
 -- a refusal leaves the output as it was
 refuses : (m : ℕ) (t out : List ℕ) (r : ℕ) → transform_reason m t (length out) ≡ r → (r ≡ 0 → ⊥) → Answered m t out r out
