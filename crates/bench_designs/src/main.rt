@@ -4,7 +4,7 @@
 ghost use Rattle.std.specs.Prelude.{◌+◌, ◌<◌, ◌≤◌, length};
 
 // How many lines ended with each number: refusals of producing at their number, verdicts at 32 and their number.
-#[derive(Drop)]
+#[derive(Clone, Copy)]
 pub struct Tally {
     pub counts: [usize; 64],
 }
@@ -81,7 +81,7 @@ fn judge_table(
 }
 
 // What is known after a line: the tally, and where the next line starts.
-#[derive(Drop)]
+#[derive(Clone, Copy)]
 pub struct After {
     pub tally: Tally,
     pub next: usize,

@@ -21,7 +21,7 @@ use tables::{chain_is_box, first_repeating};
 
 // Reason, place and component, as the paper numbers them.
 #[repr(C)]
-#[derive(Drop)]
+#[derive(Clone, Copy)]
 pub struct Verdict {
     pub reason: usize,
     pub place: usize,
@@ -30,7 +30,7 @@ pub struct Verdict {
 
 // A verdict, and how many trials it took.
 #[repr(C)]
-#[derive(Drop)]
+#[derive(Clone, Copy)]
 pub struct Judged {
     pub verdict: Verdict,
     pub trials: usize,
@@ -38,7 +38,7 @@ pub struct Judged {
 
 // What a verdict can take: bytes of workspace, and the most trials. Both are 0 where the head record is refused.
 #[repr(C)]
-#[derive(Drop)]
+#[derive(Clone, Copy)]
 pub struct Forecast {
     pub reason: usize,
     pub workspace: usize,

@@ -36,7 +36,7 @@ fn sharings(bits: usize) -> u32
 }
 
 // What a pass over sharings found: whether it stopped, and how many it tried.
-#[derive(Drop)]
+#[derive(Clone, Copy)]
 pub struct Pass {
     pub stopped: bool,
     pub tries: usize,

@@ -18,14 +18,14 @@ pub const GREATEST_TERMS: usize = 4096;
 pub const GREATEST_RECORDS: usize = 3 + Head::GREATEST_STAGES * (1 + Head::GREATEST_SHARE_BITS);
 
 // The head's three numbers.
-#[derive(Drop)]
+#[derive(Clone, Copy)]
 pub struct Head {
     pub m: usize,
     pub s: usize,
     pub k: usize,
 }
 
-#[derive(Drop)]
+#[derive(Clone, Copy)]
 pub enum Checked {
     Good(Head),
     Beyond,
@@ -72,14 +72,14 @@ impl Head {
 }
 
 // What reading the head record alone finds: the reason of a refusal, or 0 and the head.
-#[derive(Drop)]
+#[derive(Clone, Copy)]
 pub struct HeadRead {
     pub reason: usize,
     pub head: Head,
 }
 
 // What reading finds: the reason and the place of a refusal, or 0 and where each record's body starts.
-#[derive(Drop)]
+#[derive(Clone, Copy)]
 pub struct Layout {
     pub reason: usize,
     pub place: usize,

@@ -14,7 +14,7 @@ use threshold::{FiveShares, Ran};
 
 // Five shares, the greatest number of them, by value; the unused ones are zero.
 #[repr(C)]
-#[derive(Drop)]
+#[derive(Clone, Copy)]
 pub struct Shares {
     pub share: FiveShares,
 }

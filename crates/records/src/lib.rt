@@ -11,7 +11,7 @@ pub use writer::{
 
 // The answer of what writes a file: the number of a refusal, or 0 and the length of the file.
 #[repr(C)]
-#[derive(Drop)]
+#[derive(Clone, Copy)]
 pub struct Produced {
     pub reason: usize,
     pub length: usize,

@@ -26,7 +26,7 @@ ghost use Rattle.text.specs.Lines.{
 pub use words::print_reason;
 
 // One line. `good` where it is a request; `next` is the first byte after the line.
-#[derive(Drop)]
+#[derive(Clone, Copy)]
 pub struct Request {
     pub good: bool,
     pub m: usize,
@@ -36,7 +36,7 @@ pub struct Request {
 }
 
 // A number read from text, and the first byte after it.
-#[derive(Drop)]
+#[derive(Clone, Copy)]
 struct Number {
     pub value: usize,
     pub next: usize,

@@ -12,7 +12,7 @@ pub type FiveShares = [u8; Head::GREATEST_SHARES];
 
 // What a run answers: the reason, 0 on success, and five shares.
 #[repr(C)]
-#[derive(Drop)]
+#[derive(Clone, Copy)]
 pub struct Ran {
     pub reason: usize,
     pub shares: FiveShares,
