@@ -6,7 +6,6 @@ use Prim.Native.Nat.{ℕ, ◌+◌, ◌*◌, ◌^◌, ◌<◌, ◌≤◌}
 use native.Mathlib.Omega.{arith}
 use lib.Pow.{pow_mono}
 use lib.ListN.{length}
-use borrow.Author.Rules.{below_field}
 use borrow.Rule.Slice.Know.{Fit}
 use borrow.Table.Referent.{f_int}
 use mir.Syntax.{w8}
@@ -50,6 +49,5 @@ module _ (f : List ℕ) (l : Layout) (t : ℕ) (h : t < l.head.k) (d : Describes
     pub stage_stands : Stand f l t first
     stage_stands = stand f (λ i. omega (arith, bytes i)) l d t h first e
 
-    -- the length of an array in a struct is known so
-    pub lists_stand : length (map (λ (v : ℕ). v) l.starts) ≡ greatest_records → Standing f l.starts first (l.head.m * l.head.s)
-    lists_stand k = (stage_stands.inside, below_field ℕ l.starts _ greatest_records k stage_stands.known, bits_high f l d)
+    pub lists_stand : length l.starts ≡ greatest_records → Standing f l.starts first (l.head.m * l.head.s)
+    lists_stand k = (stage_stands.inside, rw k stage_stands.known, bits_high f l d)

@@ -2,14 +2,13 @@
 -- Lists are read from the last down: each step adds the value of one list below those so far, and the last step gives the output of all.
 -- Assumes nothing.
 use mathlib.Core.Path.{◌≡◌, refl, sym, ap, ◌∙◌}
-use mathlib.Core.List.{List, [], map}
+use mathlib.Core.List.{List, []}
 use Prim.Native.Nat.{ℕ, ◌+◌, ◌-◌, ◌*◌, ◌/◌, ◌^◌, ◌≤◌, ◌<◌}
 use native.Mathlib.Nat.{lt_of_lt_of_le, mul-le-mul_left, mul-suc}
 use native.Mathlib.Omega.{arith}
 use lib.Bits.{bit_and, bit_xor, xor_zero_r}
 use lib.Pow.{pow_mono, pow_pos}
 use lib.ListN.{length, get_or, drop, length-drop}
-use borrow.Author.Rules.{below_field}
 use borrow.Rule.Slice.Know.{Fit}
 use borrow.Table.Referent.{f_int}
 use mir.Syntax.{w8, w64}
@@ -138,10 +137,8 @@ module _ (f : List ℕ) (y : Layout) (d : Describes f y) where
       pub component_inside : AllInside f y.starts first y.head.m
       component_inside = lists_inside f (λ i. omega (arith, bytes i)) y d t u (y.head.m * j) y.head.m first lists_before e
 
-      -- the length of an array in a struct is known so
-      pub component_known : length (map (λ (v : ℕ). v) y.starts) ≡ greatest_records → first + y.head.m < length y.starts
-      component_known k =
-          below_field ℕ y.starts _ greatest_records k (lists_known f (λ i. omega (arith, bytes i)) y d t u (y.head.m * j) y.head.m first lists_before e)
+      pub component_known : length y.starts ≡ greatest_records → first + y.head.m < length y.starts
+      component_known k = rw k (lists_known f (λ i. omega (arith, bytes i)) y d t u (y.head.m * j) y.head.m first lists_before e)
 
       pub component_found : (r x : ℕ) → r ≡ output (lists_of f y.starts first y.head.m) x → r ≡ component y.head.m (stage_of (meaning f) t).lists j x
       component_found r x q =
