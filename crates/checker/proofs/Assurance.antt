@@ -16,7 +16,7 @@ use Rattle.threshold.specs.Chain.{handed, chained}
 use Rattle.threshold.specs.Running.{packed}
 use Rattle.threshold.proofs.Tables.{chain_tables}
 use Rattle.threshold.proofs.Meetings.{AllBijective, met_once, outcome, setting_independent, value_independent, reads_equally}
-use Rattle.threshold.proofs.Packing.{share_fits, packed_lt, packed_sum, packed_unpacked, unpacked_packed, unpacked_length, unpacked_fits, unpacked_sum}
+use Rattle.threshold.proofs.Packing.{share_fits_lem, packed_lt, packed_sum, packed_unpacked, unpacked_packed, unpacked_length, unpacked_fits, unpacked_sum}
 use Rattle.threshold.proofs.Running.{running_success, running_sharing}
 use Rattle.checker.specs.Verdict.{verdict}
 use Rattle.checker.specs.Accepted.{Accepted}
@@ -49,7 +49,7 @@ module _ (f : List ℕ) (n : ℕ) (d : Design) (a : Accepted f n d) where
   same_sharings =
       record {
         number = λ x l h. (
-          packed_lt d.m d.s l (share_fits d.m d.s l h.fit shares_most),
+          packed_lt d.m d.s l (share_fits_lem d.m d.s l h.fit shares_most),
           packed_sum d.m d.s l shares_most h.five h.fit ∙ h.sums,
           unpacked_packed d.m d.s l shares_most h.five h.fit,
         );
