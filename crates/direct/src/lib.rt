@@ -2,7 +2,7 @@
 ghost use Rattle.std.specs.Prelude.{◌≡◌, ◌+◌, ◌-◌, ◌^◌, ◌<◌, ◌≤◌, length, get_or, set, take};
 ghost use Rattle.std.specs.Int.Bits.{bit_or};
 ghost use Rattle.finite.specs.Tests.{pick};
-ghost use Rattle.finite.specs.Sets.{has as hasElement};
+ghost use Rattle.finite.specs.Sets.{has as has_element};
 ghost use Rattle.anf.specs.Terms.{before};
 ghost use Rattle.design.specs.Limits.{greatest_terms};
 ghost use Rattle.direct.specs.Direct.{direct_list};
@@ -54,7 +54,7 @@ pub fn rules() -> [u8; RULE_SETS]
 // Whether the set x has the element i.
 fn has(x: u32, i: usize) -> bool
     requires { i < 32 }
-    ensures { result ≡ hasElement x i }
+    ensures { result ≡ has_element x i }
 {
     (x >> i) % 2 == 1
 }

@@ -37,9 +37,10 @@ pub record Answered (f g out : List ℕ) (r : Produced) (after : List ℕ) : Typ
   pub kept : rules.Answered (joined_reason f g (length out)) (joined f g) out r after
 
 -- the same as a contract has it
-pub answered : {f g out : List ℕ} {r : Produced} {after : List ℕ} → Answered f g out r after → (r ≡ joining f g (length out)) × (after ≡ joined_after f g out)
+pub answered : {f g out : List ℕ} {r : Produced} {after : List ℕ} → Answered f g out r after
+    → record { value : r ≡ joining f g (length out); output_after : after ≡ joined_after f g out }
 unfolding joining joined_after
-answered a = (a.kept.answer, a.kept.output)
+answered a = record { value = a.kept.answer; output_after = a.kept.output }
 
 refuses : (f g out : List ℕ) (r : Produced) (k : ℕ) → r ≡ no_file k → 0 < k → JoiningExplained f g (length out) k → Answered f g out r out
 refuses f g out r k er p e = record { kept = rules.refuses _ (joined f g) out r k er p ((joined_explained f g (length out) k).1 e) }

@@ -15,7 +15,7 @@ use Rattle.design.proofs.Theorems.{read_formed}
 use Rattle.threshold.specs.Chain.{handed}
 use Rattle.threshold.specs.Running.{shares_fit, as_number, as_bytes, running}
 use Rattle.threshold.proofs.Stages.{handed_lt}
-use Rattle.threshold.proofs.Packing.{share_fits, packed_lt}
+use Rattle.threshold.proofs.Packing.{share_fits_lem, packed_lt}
 use Rattle.threshold.proofs.Running.{handed_append, running_unfit, running_success, running_sharing}
 use Rattle.joiner.specs.Joining.{joined_design, joined, Joinable, running_onward}
 use Rattle.joiner.proofs.Formed.{joined_reads}
@@ -32,7 +32,7 @@ module _ (d : Design) (v : WellFormed d) where
   given_lt : (l : List ℕ) → shares_fit d.m d.s l ≡ true → handed d.stages d.k (as_number d l) < 2 ^ (d.m * d.s)
   given_lt l u =
       handed_lt d.m d.s d.k d.stages (λ t h. (v.stage t (omega (arith, v.count))).count) (as_number d l)
-      (packed_lt d.m d.s l (share_fits d.m d.s l u shares_most))
+      (packed_lt d.m d.s l (share_fits_lem d.m d.s l u shares_most))
 
 module _ (f g : List ℕ) (d e : Design) (j : Joinable f g d e) where
   -- the second takes the bytes of every sharing of the first

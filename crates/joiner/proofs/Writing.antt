@@ -179,9 +179,9 @@ module _ (h : Head) (t u first second : List ℕ) where
 
 -- as a contract has it
 pub written : {file out : List ℕ} {r : Produced} {after : List ℕ} → Answered (room_reason (length out) file) file out r after
-    → (r ≡ file_answer (length out) file) × (after ≡ file_after out file)
+    → record { value : r ≡ file_answer (length out) file; output_after : after ≡ file_after out file }
 unfolding file_answer file_after
-written a = (a.answer, a.output)
+written a = record { value = a.answer; output_after = a.output }
 
 module _ (h : Head) (t u first second out : List ℕ) (n : ℕ) (e : n ≡ size_within (length out) (15 + length t + length first + length second)) where
   abbrev file : List ℕ

@@ -39,9 +39,10 @@ pub record Answered (m s : ℕ) (t out : List ℕ) (r : Produced) (after : List 
   pub kept : rules.Answered (produced_reason m s t (length out)) (produced m s t) out r after
 
 -- the same as a contract has it
-pub answered : {m s : ℕ} {t out : List ℕ} {r : Produced} {after : List ℕ} → Answered m s t out r after → (r ≡ producing m s t (length out)) × (after ≡ output_after m s t out)
+pub answered : {m s : ℕ} {t out : List ℕ} {r : Produced} {after : List ℕ} → Answered m s t out r after
+    → record { value : r ≡ producing m s t (length out); output_after : after ≡ output_after m s t out }
 unfolding producing output_after
-answered a = (a.kept.answer, a.kept.output)
+answered a = record { value = a.kept.answer; output_after = a.kept.output }
 
 module _ (m s : ℕ) (t out : List ℕ) where
   pub refuses : (r : Produced) (k : ℕ) → r ≡ no_file k → 0 < k → produced_reason m s t (length out) ≡ k → Answered m s t out r out
