@@ -1,0 +1,16 @@
+-- `jestrunas::jestrunas_read` meets its contract: the reader's reason and place are those of the definition.
+-- Assumes nothing.
+use Rattle.std.proofs.Common.{◌≡◌, ℕ, List, ap₂}
+use Rattle.design.specs.Layout.{layout_of}
+use Rattle.design.specs.declared.Layout.{Layout}
+use Rattle.design.proofs.Answered.{answers_reason, answers_place}
+use Rattle.checker.specs.Verdict.{answer}
+use Rattle.jestrunas.specs.Published.{read_answer}
+use Rattle.jestrunas.proofs.jestrunas_read.Goals as goal
+
+answers_read : (f : List ℕ) (l : Layout) → l ≡ layout_of f → answer l.reason l.place 0 ≡ read_answer f
+unfolding read_answer
+answers_read f l a = ap₂ (λ (r p : ℕ). answer r p 0) (answers_reason f l a) (answers_place f l a)
+
+pub returns : goal.returns
+returns c = search answers_read
