@@ -1,6 +1,8 @@
 // Judges published designs. A line of its input is `m s TABLE`, a table to produce with s shares and to judge, or `file HEX`, a
 // design file to judge. It prints what came of each line, and at the end how many were accepted and how many were refused with
 // each number.
+#![tactic(auto)]
+
 ghost use Rattle.std.specs.Prelude.{◌+◌, ◌<◌, ◌≤◌, length};
 
 // How many lines ended with each number: refusals of producing at their number, verdicts at 32 and their number.

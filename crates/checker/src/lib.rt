@@ -1,4 +1,6 @@
 // The verdict on a design file, and the forecast of what it can take.
+#![tactic(auto)]
+
 mod forecasts; // forecasts.rt: the workspace and the most trials, from the head
 mod marks; // marks.rt: marks in a lent workspace
 mod stages; // stages.rt: one stage judged on all its sharings

@@ -1,4 +1,6 @@
 // The design file: the head and its limits, reading, and what a file that reads holds.
+#![tactic(auto)]
+
 mod reader; // reader.rt: the tests of each record, and the walk over all
 mod parts; // parts.rt: the tables and lists of a file that reads
 

@@ -8,7 +8,7 @@ use native.Mathlib.Omega.{arith}
 use lib.Dec.{leb}
 use lib.ListN.{length, get_or}
 use borrow.Author.Tests.{leb-true}
-use Rattle.finite.specs.Tests.{implies, all, any, count}
+use Rattle.finite.specs.Tests.{implies, all, any}
 use Rattle.finite.specs.Sets.{has}
 use Rattle.finite.proofs.Testing.{all_at, implies_at, and_left, any_some, any_at}
 use Rattle.finite.proofs.Counting.{count_mono}

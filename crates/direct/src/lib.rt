@@ -1,4 +1,6 @@
 // The direct sharing: the rule, the expansion of terms into products, and the list of one bit of one component.
+#![tactic(auto)]
+
 ghost use Rattle.std.specs.Prelude.{◌≡◌, ◌+◌, ◌-◌, ◌^◌, ◌<◌, ◌≤◌, length, get_or, set, take};
 ghost use Rattle.std.specs.Int.Bits.{bit_or};
 ghost use Rattle.finite.specs.Tests.{pick};

@@ -1,5 +1,7 @@
 // Reads a design file on standard input and prints it for a person: head, tables, each component's formula,
 // and the verdict in words.
+#![tactic(auto)]
+
 ghost use Rattle.std.specs.Prelude.{◌+◌, ◌*◌, ◌<◌, ◌≤◌};
 ghost use Rattle.design.specs.Inside.Described.{Describes};
 

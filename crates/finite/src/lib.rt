@@ -1,5 +1,7 @@
 // Powers of two, bytes as numbers and a copy of bytes, for the crates above. What the crate is for are its definitions and laws: tests, counts and sums
 // over the numbers below n, sets that are numbers, the first fault of a list.
+#![tactic(auto)]
+
 ghost use Rattle.std.specs.Prelude.{◌≡◌, ◌++◌, ◌^◌, ◌<◌, ◌≤◌, length, drop};
 
 // 2 to the power of `e`.

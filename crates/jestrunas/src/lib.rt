@@ -1,4 +1,6 @@
-// The published operations, exported to C. Each is a call of the layer below, with the same contract and no `requires`.
+// The published operations. Each is a call of the layer below, with the same contract and no `requires`.
+#![tactic(auto)]
+
 ghost use Rattle.std.specs.Prelude.{◌≡◌, length};
 ghost use Rattle.anf.specs.Transform.{transform_reason, transform_after};
 ghost use Rattle.threshold.specs.Running.{running};
@@ -20,8 +22,7 @@ pub struct Shares {
 }
 
 // Reads a design file: the first fault and its place, or three zeros.
-#[unsafe(no_mangle)]
-pub extern "C" fn jestrunas_read(file: &[u8]) -> Verdict
+pub fn jestrunas_read(file: &[u8]) -> Verdict
     ensures { result ≡ read_answer file.now }
 {
     let layout = design::read(file);
@@ -33,16 +34,14 @@ pub extern "C" fn jestrunas_read(file: &[u8]) -> Verdict
 }
 
 // What a verdict on a design file can take, from its head record alone.
-#[unsafe(no_mangle)]
-pub extern "C" fn jestrunas_forecast(file: &[u8]) -> Forecast
+pub fn jestrunas_forecast(file: &[u8]) -> Forecast
     ensures { result ≡ forecast file.now }
 {
     checker::foresee(file)
 }
 
 // The verdict on a design file, and its trials.
-#[unsafe(no_mangle)]
-pub extern "C" fn jestrunas_judge(file: &[u8], workspace: &mut [u8]) -> Judged
+pub fn jestrunas_judge(file: &[u8], workspace: &mut [u8]) -> Judged
     ensures value { result ≡ judging file.now (length workspace.old) }
     ensures workspace_after { workspace.new ≡ workspace_after file.now workspace.old }
 {
@@ -50,8 +49,7 @@ pub extern "C" fn jestrunas_judge(file: &[u8], workspace: &mut [u8]) -> Judged
 }
 
 // Runs the chain of a design file on five shares.
-#[unsafe(no_mangle)]
-pub extern "C" fn jestrunas_run(file: &[u8], shares: Shares) -> Ran
+pub fn jestrunas_run(file: &[u8], shares: Shares) -> Ran
     ensures { result ≡ running file.now shares.share }
 {
     let given = shares.share;
@@ -59,8 +57,7 @@ pub extern "C" fn jestrunas_run(file: &[u8], shares: Shares) -> Ran
 }
 
 // Writes the direct sharing of a table.
-#[unsafe(no_mangle)]
-pub extern "C" fn jestrunas_produce(m: usize, s: usize, table: &[u8], output: &mut [u8]) -> Produced
+pub fn jestrunas_produce(m: usize, s: usize, table: &[u8], output: &mut [u8]) -> Produced
     ensures value { result ≡ producing m s table.now (length output.old) }
     ensures output_after { output.new ≡ output_after m s table.now output.old }
 {
@@ -68,8 +65,7 @@ pub extern "C" fn jestrunas_produce(m: usize, s: usize, table: &[u8], output: &m
 }
 
 // Joins two design files into one.
-#[unsafe(no_mangle)]
-pub extern "C" fn jestrunas_join(first: &[u8], second: &[u8], output: &mut [u8]) -> Produced
+pub fn jestrunas_join(first: &[u8], second: &[u8], output: &mut [u8]) -> Produced
     ensures value { result ≡ joining first.now second.now (length output.old) }
     ensures output_after { output.new ≡ joined_after first.now second.now output.old }
 {
@@ -77,8 +73,7 @@ pub extern "C" fn jestrunas_join(first: &[u8], second: &[u8], output: &mut [u8])
 }
 
 // The coefficient words of a table, or the table of coefficient words.
-#[unsafe(no_mangle)]
-pub extern "C" fn jestrunas_transform(m: usize, input: &[u8], output: &mut [u8]) -> usize
+pub fn jestrunas_transform(m: usize, input: &[u8], output: &mut [u8]) -> usize
     ensures value { result ≡ transform_reason m input.now (length output.old) }
     ensures output_after { output.new ≡ transform_after m input.now output.old }
 {

@@ -1,4 +1,6 @@
 // Designs made of designs: two joined into one.
+#![tactic(auto)]
+
 mod file; // file.rt: a joined file, written if it fits
 
 ghost use Rattle.std.specs.Prelude.{◌≡◌, length};

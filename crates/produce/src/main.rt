@@ -1,5 +1,6 @@
 // Reads a line `m s TABLE` on standard input and writes the design file of the direct sharing.
 // A refusal is told on standard error, and nothing is written.
+#![tactic(auto)]
 
 // What is wrong, on standard error.
 fn complain(reason: usize) {

@@ -1,4 +1,6 @@
 // Producing: the file of the direct sharing of a box.
+#![tactic(auto)]
+
 mod file; // file.rt: the file's length, and writing it
 
 ghost use Rattle.std.specs.Prelude.{◌≡◌, false, length};

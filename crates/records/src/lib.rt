@@ -1,4 +1,6 @@
 // The bytes of a design file: numbers, lists of terms and records, as they stand in a file, and written to one.
+#![tactic(auto)]
+
 mod bytes; // bytes.rt: numbers in a file
 mod terms; // terms.rt: lists of terms as they stand in a file
 mod writer; // writer.rt: records, lists and the end of a file

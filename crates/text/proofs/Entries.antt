@@ -84,10 +84,10 @@ pub record AllTaken (text : List ℕ) (wide : Bool) (at : ℕ) (out₀ out : Lis
 
 pub all_taken : {text : List ℕ} {wide : Bool} {at : ℕ} {out₀ out : List ℕ} {i n : ℕ} → AllTaken text wide at out₀ out i n
     → record {
-        value : ◌≡◌ {A = Number} (record { value = n; next = i }) (count_at text wide (length out₀) at);
-        out_after : out ≡ entries_over text wide at out₀;
-        at_le_next : (at ≤ i) × (i ≤ length text) × IsPrefixLen n out
-      }
+      value : ◌≡◌ {A = Number} (record { value = n; next = i }) (count_at text wide (length out₀) at);
+      out_after : out ≡ entries_over text wide at out₀;
+      at_le_next : (at ≤ i) × (i ≤ length text) × IsPrefixLen n out;
+    }
 all_taken a = record { value = a.answer; out_after = a.output; at_le_next = (a.from, a.within, a.counts) }
 
 pub taken_start : (text : List ℕ) (wide : Bool) (at : ℕ) (out₀ : List ℕ) → at ≤ length text → Taken text wide at out₀ out₀ at 0

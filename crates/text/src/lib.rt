@@ -1,5 +1,7 @@
 // Requests in text, for the programs: a line `m s TABLE`, each entry of the table one hexadecimal digit,
 // or two digits where m is above 4. And the published numbers in words.
+#![tactic(auto)]
+
 mod words;
 
 ghost use Rattle.std.specs.Prelude.{◌+◌, ◌*◌, ◌<◌, ◌≤◌, ◌≡◌, true, length, get_or, eqb};

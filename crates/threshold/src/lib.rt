@@ -1,4 +1,6 @@
 // Sharings, stages and chains: the output of a stage at a sharing, and running a chain.
+#![tactic(auto)]
+
 use design::Head;
 
 mod engine; // engine.rt: the output of a stage, and the sum of a sharing

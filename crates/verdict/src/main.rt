@@ -1,3 +1,5 @@
+#![tactic(auto)]
+
 // The verdict program: reads a design file on standard input and prints reason, place and component.
 fn print_line(a: usize, b: usize, c: usize) {
     io::print_decimal(1, a as u64);

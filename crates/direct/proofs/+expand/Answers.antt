@@ -2,7 +2,7 @@
 -- has fewer. The laws are those of Stepping.
 use Rattle.std.proofs.Common.{arith, refl}
 use Rattle.direct.proofs.Stepping.{chosen_low, room_end, ends, variable_low, fewer_left}
-use Rattle.direct.proofs.Stepping.{grown_none, row_fits, place_fits, place_low, shares_low, share_next, share_asks, shares_more, shares_all}
+use Rattle.direct.proofs.Stepping.{grown_none, row_fits, place_fits, place_low, shares_low, share_asks, shares_more, shares_all}
 use Rattle.direct.proofs.+expand.Goals as goal
 
 pub emit-requires : goal.emit-requires

@@ -10,7 +10,7 @@ decreases-expand l = ones l.u
 
 abbrev pub invariant-loop-j : goal.invariant-loop-j
 invariant-loop-j l =
-      (l.j ≤ l.s)
+    (l.j ≤ l.s)
     × (length l.list ≡ length l.initial.list)
     × Grown (joined l.j (each_share l.rule l.m l.s l.rest l.to l.v l.p l.chosen)) l.initial.list l.n l.list l.count
 
