@@ -1,6 +1,8 @@
 // Normal form: the transform between a table and its coefficients, and what tables are tested for.
 #![tactic(auto)]
 
+pub mod words; // words.rt: the sums over subsets of wider words
+
 ghost use Rattle.std.specs.Prelude.{◌≡◌, ◌++◌, ◌+◌, ◌^◌, ◌<◌, ◌≤◌, max, eqb, length, drop};
 ghost use Rattle.std.specs.Int.Count.{ones};
 ghost use Rattle.finite.specs.Tests.{pick, tabulate};

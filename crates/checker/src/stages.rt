@@ -69,9 +69,10 @@ fn try_sums(file: &[u8], starts: &[usize], first: usize, table: &[u8], m: usize,
 {
     let bits = m * s;
     let n = sharings(bits);
+    let mut words = [0u32; 64];
     let mut x: u32 = 0;
     while x < n {
-        let y = threshold::output_of(file, starts, first, bits, x);
+        let y = threshold::output_in(file, starts, first, bits, x, &mut words);
         if !agrees(table, m, s, x, y) {
             return stop_at(x);
         }
@@ -165,9 +166,10 @@ fn try_marks(
     ensures workspace_unchanged { drop (2 ^ count / 8) workspace.new ≡ drop (2 ^ count / 8) workspace.old }
 {
     let n = sharings(count);
+    let mut words = [0u32; 64];
     let mut x: u32 = 0;
     while x < n {
-        let y = threshold::output_of(file, starts, first, count, x);
+        let y = threshold::output_in(file, starts, first, count, x, &mut words);
         if mark_one(workspace, y as usize) {
             return stop_at(x);
         }

@@ -1,4 +1,4 @@
--- A table can be shared correctly and non_completely with s shares exactly when its degree is below s: the degree bound, for component functions of a
+-- A table can be shared correctly and non-completely with s shares exactly when its degree is below s: the degree bound, for component functions of a
 -- sharing as one number, and the direct stage.
 use mathlib.Core.Path.{ap, ◌∙◌}
 use mathlib.Core.Logic.{◌↔◌}

@@ -45,7 +45,7 @@ direct_stage m s t = record { table = t; lists = direct_lists m s (subset_sum m 
 unfoldable pub direct_sharing : ℕ → ℕ → List ℕ → Design
 direct_sharing m s t = record { m = m; s = s; k = 1; box = t; stages = direct_stage m s t ∷ [] }
 
--- "Terms of threshold implementation": some component functions, whatever they are, share the table correctly and non_completely with s shares
+-- "Terms of threshold implementation": some component functions, whatever they are, share the table correctly and non-completely with s shares
 pub record Shareable (m s : ℕ) (t : List ℕ) : Type 0 where
   pub F : ℕ → ℕ → ℕ
   pub correct : Correct m s F t

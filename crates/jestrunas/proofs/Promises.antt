@@ -219,7 +219,7 @@ produced_exactly = success_exactly
 pub shareable_exactly : (m s : ℕ) (t : List ℕ) → 1 ≤ s → TableFits m t → Shareable m s t ↔ degree m (entry t) < s
 shareable_exactly = shareable.shareable_exactly
 
--- 16 is answered exactly when no component functions at all, of a file or not, share the table correctly and non_completely with s shares.
+-- 16 is answered exactly when no component functions at all, of a file or not, share the table correctly and non-completely with s shares.
 pub refused_exactly : (m s : ℕ) (t : List ℕ) (room : ℕ) → Box m s t → (produced_reason m s t room ≡ 16) ↔ (Shareable m s t → ⊥)
 refused_exactly = sixteen_exactly
 

@@ -67,7 +67,7 @@ module _ (m s : ℕ) (t : List ℕ) (room : ℕ) where
   some : Box m s t → 1 ≤ s
   some b = omega (arith, (bounds m s 1 b.limits).s_low)
 
-  -- for a permutation within the limits 16 is answered exactly when no component functions share it correctly and non_completely
+  -- for a permutation within the limits 16 is answered exactly when no component functions share it correctly and non-completely
   pub sixteen_exactly : Box m s t → produced_reason m s t room ≡ 16 ↔ (Shareable m s t → ⊥)
   sixteen_exactly b = (to, from)
     where

@@ -90,20 +90,23 @@ module _ (f starts : List ℕ) (first n x : ℕ) where
           moved : Inside f (get_or starts (first + (w.i - 1)) 0) (get_or starts (first + (w.i - 1) + 1) 0) → Inside f (get_or starts (first + (w.i - 1)) 0) (get_or starts at 0)
           moved k = rw (sym here) k
 
+      -- is the list that stands from the place before on
+      pub from_list : get_or (lists_of f starts first n) (w.i - 1) [] ≡ terms (body_at f (get_or starts (at - 1) 0) next)
+      from_list =
+          lists_of_at f starts first n (w.i - 1) inside
+          ∙ ap (λ (a : ℕ). terms (body_at f (get_or starts a 0) (get_or starts (first + (w.i - 1) + 1) 0))) before
+          ∙ ap (λ (a : ℕ). terms (body_at f (get_or starts (at - 1) 0) (get_or starts a 0))) here
+          ∙ ap (λ (a : ℕ). terms (body_at f (get_or starts (at - 1) 0) a)) (sym w.start)
+
       pub from_more : n ≤ greatest_share_bits → (v : ℕ) → v ≡ value_at (terms (body_at f (get_or starts (at - 1) 0) next)) x
           → OutputFrom (at - 1) (get_or starts (at - 1) 0) (2 * y + v)
       from_more few v e =
           let ls = lists_of f starts first n in
           let k = lists_of_length f starts first n in
-          let b : get_or ls (w.i - 1) [] ≡ terms (body_at f (get_or starts (at - 1) 0) next) =
-          lists_of_at f starts first n (w.i - 1) inside
-          ∙ ap (λ (a : ℕ). terms (body_at f (get_or starts a 0) (get_or starts (first + (w.i - 1) + 1) 0))) before
-          ∙ ap (λ (a : ℕ). terms (body_at f (get_or starts (at - 1) 0) (get_or starts a 0))) here
-          ∙ ap (λ (a : ℕ). terms (body_at f (get_or starts (at - 1) 0) a)) (sym w.start) in
           let j : w.i - 1 + 1 ≡ w.i = (let p = w.index in omega arith) in
           let o = output_next x (w.i - 1) ls (rw k inside) in
           let q : output (drop (w.i - 1 + 1) ls) x ≡ y = rw j (sym w.value) in
-          let r : value_at (get_or ls (w.i - 1) []) x ≡ v = rw b (sym e) in
+          let r : value_at (get_or ls (w.i - 1) []) x ≡ v = rw from_list (sym e) in
           let o' : 2 * y + v ≡ output (drop (w.i - 1) ls) x = omega arith in
           record {
             i = w.i - 1;

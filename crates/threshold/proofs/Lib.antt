@@ -10,4 +10,5 @@ pub mod Dependence
 pub mod Packing
 pub mod Running
 pub mod Evaluating
+pub mod Together
 pub mod Sending

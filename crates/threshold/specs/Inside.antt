@@ -1,2 +1,3 @@
 -- What only contracts inside the crates need: no published contract and no promise rests on it.
 pub mod Variables
+pub mod Blocks

@@ -3,9 +3,11 @@
 
 use design::Head;
 
+mod blocks; // blocks.rt: the outputs of a stage at 64 sharings together
 mod engine; // engine.rt: the output of a stage, and the sum of a sharing
 mod runs; // runs.rt: stages and chains run on five shares
 
+pub use blocks::output_in;
 pub use engine::{component_at, output_of, sum_of};
 pub use runs::{run, run_stage};
 

@@ -8,9 +8,9 @@ use Rattle.checker.specs.Verdict.{answer}
 use Rattle.jestrunas.specs.Published.{read_answer}
 use Rattle.jestrunas.proofs.jestrunas_read.Goals as goal
 
-answers_read : (f : List ℕ) (l : Layout) → l ≡ layout_of f → answer l.reason l.place 0 ≡ read_answer f
+read_answers : (f : List ℕ) (l : Layout) → l ≡ layout_of f → answer l.reason l.place 0 ≡ read_answer f
 unfolding read_answer
-answers_read f l a = ap₂ (λ (r p : ℕ). answer r p 0) (answers_reason f l a) (answers_place f l a)
+read_answers f l a = ap₂ (λ (r p : ℕ). answer r p 0) (answers_reason f l a) (answers_place f l a)
 
 pub returns : goal.returns
-returns c = search answers_read
+returns c = search read_answers

@@ -1,8 +1,9 @@
+use Rattle.threshold.proofs.Together.{ahead_start}
 use Rattle.checker.proofs.Marking.{marked_start, marked_inside, marked_found, marked_rest, marked_step, marked_none}
 use Rattle.checker.proofs.stages.try_marks.Goals as goal
 
 pub loop-x-init : goal.loop-x-init
-loop-x-init c = search marked_start
+loop-x-init c = search (ahead_start, marked_start)
 
 pub mark_one-requires : goal.mark_one-requires
 mark_one-requires c = search marked_inside
