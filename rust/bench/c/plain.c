@@ -1,6 +1,6 @@
 /*
- * The published operations in plain C by the library's own method: one sharing at a time, term by term, output
- * sharings marked in a bitmap. The benchmark measures the library against this. PREFIX goes before every name, so that
+ * The published operations in plain C: one sharing at a time, term by term (the library's verdict looks at a term once
+ * for 64 sharings), output sharings marked in a bitmap. The benchmark measures the library against this. PREFIX goes before every name, so that
  * one program can hold it built by several compilers.
  */
 #include "../../../include/jestrunas.h"

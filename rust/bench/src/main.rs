@@ -1,4 +1,4 @@
-//! The published operations against plain C of the same method (c/plain.c), built by gcc -O3 -march=native, by gcc -O3 for any x86-64
+//! The published operations against plain C (c/plain.c), which judges one sharing at a time, built by gcc -O3 -march=native, by gcc -O3 for any x86-64
 //! with AVX2, where this machine has it, by gcc -O3 for any x86-64, as the library is, and, where it is there, by clang -O3
 //! -march=native: all in one run, the best of several rounds in turn, as ratios of the library's processor time to theirs.
 //!
