@@ -1,5 +1,6 @@
 -- What the transform answers and leaves, one law for each way out; and that applied twice it gives the input back.
 use mathlib.Core.Path.{◌≡◌, refl, sym, ap, ◌∙◌}
+use mathlib.Core.Logic.{◌⊎◌, inl, inr}
 use mathlib.Core.Bool.{Bool, true, false, not, ◌||◌}
 use mathlib.Core.List.{List, ◌++◌, ◌∷◌, []}
 use Prim.Native.Nat.{ℕ, ◌^◌, ◌≤◌, ◌<◌}
@@ -23,7 +24,8 @@ pub record Answered (m : ℕ) (t out : List ℕ) (r : ℕ) (after : List ℕ) : 
   pub reason : r ≡ transform_reason m t (length out)
   pub left : after ≡ transform_after m t out
 
-pub answered : {m : ℕ} {t out : List ℕ} {r : ℕ} {after : List ℕ} → Answered m t out r after → record { value : r ≡ transform_reason m t (length out); output_after : after ≡ transform_after m t out }
+pub answered : {m : ℕ} {t out : List ℕ} {r : ℕ} {after : List ℕ} → Answered m t out r after
+    → record { value : r ≡ transform_reason m t (length out); output_after : after ≡ transform_after m t out }
 answered a = record { value = a.reason; output_after = a.left }
 
 -- a refusal leaves the output as it was
@@ -32,13 +34,14 @@ unfolding transform_after
 refuses m t out r e n = record { reason = sym e; left = rw (e, ne_eqb r 0 n) refl }
 
 module _ (m : ℕ) (t out : List ℕ) where
-  pub narrow : m < 1 → Answered m t out 4 out
-  narrow a = refuses m t out 4 (unfold transform_reason in fault_here _ 4 _ 0 (or_left _ _ (lt-ltb _ _ a))) (omega arith)
+  beyond : (m < 1) ⊎ ((1 ≤ m) × (greatest_width < m)) → (ltb m 1 || ltb greatest_width m) ≡ true
+  beyond (inl h) = or_left _ _ (lt-ltb _ _ h)
+  beyond (inr h) = or_right (ltb m 1) _ (lt-ltb _ _ h.1)
+
+  pub no_width : (m < 1) ⊎ ((1 ≤ m) × (greatest_width < m)) → Answered m t out 4 out
+  no_width a = refuses m t out 4 (unfold transform_reason in fault_here _ 4 _ 0 (beyond a)) (omega arith)
 
   module _ (a : 1 ≤ m) where
-    pub wide : greatest_width < m → Answered m t out 4 out
-    wide b = refuses m t out 4 (unfold transform_reason in fault_here _ 4 _ 0 (or_right (ltb m 1) _ (lt-ltb _ _ b))) (omega arith)
-
     module _ (b : m ≤ greatest_width) (n : ℕ) (e : n ≡ 2 ^ m) where
       width : (ltb m 1 || ltb greatest_width m) ≡ false
       width = or_none (le-ltb _ _ a) (le-ltb _ _ b)

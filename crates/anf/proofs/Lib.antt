@@ -1,5 +1,6 @@
 -- Laws of normal form.
 pub mod SubsetSums
+pub mod Numbering
 pub mod InPlace
 pub mod Terms
 pub mod Passing

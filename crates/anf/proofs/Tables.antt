@@ -1,16 +1,20 @@
 -- What the tests of tables mean: entries below a bound, entries that repeat, and the degree that coefficient words give.
-use mathlib.Core.Path.{◌≡◌, ap}
-use mathlib.Core.Bool.{true}
+use mathlib.Core.Path.{◌≡◌, ap, ◌∙◌}
+use mathlib.Core.Bool.{Bool, true}
 use mathlib.Core.List.{List}
 use Prim.Native.Nat.{ℕ, ◌^◌, ◌<◌}
+use native.Mathlib.Omega.{arith}
 use lib.Dec.{eqb, ltb}
 use lib.Count.{ones}
-use lib.ListN.{length, get_or}
+use lib.ListN.{length, get_or, take}
 use borrow.Author.Tests.{ltb-true, lt-ltb}
 use Rattle.finite.specs.Tests.{pick}
-use Rattle.finite.proofs.Testing.{all_at, all_intro}
+use Rattle.finite.proofs.Testing.{all_at, all_intro, any_congr}
+use Rattle.std.specs.List.{list_all, list_any, enumerate_from}
+use Rattle.finite.specs.Maps.{met_before, repeats}
+use Rattle.finite.proofs.Lists.{list_all_is, list_any_take, list_any_places}
 use Rattle.anf.specs.NormalForm.{subset_sum, degree}
-use Rattle.anf.specs.Tables.{entries_below}
+use Rattle.anf.specs.Tables.{entries_below, entry}
 use Rattle.anf.specs.Inside.Words.{words_degree}
 use Rattle.anf.proofs.Degree.{largest_congr}
 
@@ -31,3 +35,18 @@ words_degree_lem m f words e h =
     rw e
     (largest_congr (2 ^ m) (λ u. pick (eqb (get_or words u 0) 0) 0 (ones u)) (λ u. pick (eqb (subset_sum m f u) 0) 0 (ones u))
     (λ u l. ap (λ (w : ℕ). pick (eqb w 0) 0 (ones u)) (h u l)))
+
+-- ---- what the functions of these names compute, as iterators say it
+
+pub all_below : (t : List ℕ) (bound : ℕ) (r : Bool) → r ≡ list_all (λ e. ltb e bound) t → r ≡ entries_below t bound
+unfolding entries_below
+all_below t bound r e = e ∙ list_all_is 0 (λ x. ltb x bound) t
+
+-- an entry, given with its place i, stands below i too
+abbrev pub stands_before : List ℕ → ℕ × ℕ → Bool
+stands_before t q = list_any (λ y. eqb y q.1) (take q.0 t)
+
+pub any_before : (t : List ℕ) (r : Bool) → r ≡ list_any (stands_before t) (enumerate_from 0 t) → r ≡ repeats (length t) (entry t)
+unfolding repeats met_before
+any_before t r e =
+    e ∙ list_any_places 0 (stands_before t) t ∙ any_congr (length t) _ _ (λ i l. list_any_take 0 (λ y. eqb y (get_or t i 0)) t i (omega arith))

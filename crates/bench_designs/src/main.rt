@@ -3,199 +3,94 @@
 // each number.
 #![tactic(auto)]
 
-ghost use Rattle.std.specs.Prelude.{◌+◌, ◌<◌, ◌≤◌, length};
+mod tally; // tally.rt: how the lines ended, counted
 
-// How many lines ended with each number: refusals of producing at their number, verdicts at 32 and their number.
-#[derive(Clone, Copy)]
-pub struct Tally {
-    pub counts: [usize; 64],
-}
+use checker::Verdict;
+use std::io;
+use std::io::Read;
+use tally::{Outcome, Tally};
+use text::{Line, behind_line};
 
-fn print(text: &[u8]) {
-    io::write_all(1, text);
-}
+// The most bytes of input that are read.
+const MOST_INPUT: u64 = 131072;
 
-fn print_number(n: usize) {
-    io::print_decimal(1, n as u64);
-}
+// The most entries of a table that are read: one more than a table has.
+const MOST_ENTRIES: usize = 65;
 
-fn next(n: usize) -> usize {
-    if n < 1000000 {
-        return n + 1;
+// The most bytes of a design file.
+const MOST_BYTES: usize = 32768;
+
+// The bytes of the greatest workspace: a bit for each sharing of the greatest share bits.
+const WORKSPACE: usize = 131072;
+
+// The verdict on a file, printed. What `main` owns is lent to each function that prints: a struct of it would be no plainer.
+fn judge_file(rt: &impl Print, file: &[u8], workspace: &mut [u8]) -> io::Result<Outcome> {
+    let outcome = checker::judge(file, workspace).outcome;
+    print!(rt; " verdict {}", Verdict::from(outcome))?;
+    match outcome {
+        Ok(_) => Ok(Outcome::Accepted),
+        Err(refusal) => Ok(Outcome::Refused(refusal.reason)),
     }
-    n
 }
 
-// The tally with one more line at i.
-fn counted(tally: Tally, i: usize) -> Tally {
-    if 64 <= i {
-        return tally;
-    }
-    let mut counts = tally.counts;
-    counts[i] = next(counts[i]);
-    Tally { counts }
-}
-
-// A number that is at most 31.
-fn small(n: usize) -> usize
-    ensures { result < 32 }
-{
-    if n < 32 {
-        return n;
-    }
-    31
-}
-
-// The verdict on a file, printed and counted.
-fn judge_file(file: &[u8], workspace: &mut [u8], tally: Tally) -> Tally {
-    let judged = checker::judge(file, workspace);
-    let v = judged.verdict;
-    print(b" verdict ");
-    print_number(v.reason);
-    print(b" ");
-    print_number(v.place);
-    print(b" ");
-    print_number(v.component);
-    let i = small(v.reason);
-    counted(tally, 32 + i)
-}
-
-// A line `m s TABLE`.
+// The file of a table, produced and judged.
 fn judge_table(
-    table: &[u8],
+    rt: &(impl Print + AllocGlobal),
     m: usize,
     s: usize,
-    output: &mut [u8],
+    table: &[u8],
     workspace: &mut [u8],
-    tally: Tally,
-) -> Tally {
-    let p = producer::produce(m, s, table, output);
-    print(b" produce ");
-    print_number(p.reason);
-    print(b" ");
-    print_number(p.length);
-    if p.reason != 0 {
-        let i = small(p.reason);
-        return counted(tally, i);
+) -> io::Result<Outcome> {
+    let mut output = vec![in rt.alloc(); 0u8; MOST_BYTES]?;
+    match producer::produce(m, s, table, &mut output) {
+        Ok(length) => {
+            print!(rt; " produce 0 {length}")?;
+            output.truncate(length);
+            judge_file(rt, &output, workspace)
+        }
+        Err(reason) => {
+            print!(rt; " produce {} 0", reason.number())?;
+            Ok(Outcome::NotProduced(reason))
+        }
     }
-    let length = p.length;
-    judge_file(&output[..length], workspace, tally)
 }
 
-// What is known after a line: the tally, and where the next line starts.
-#[derive(Clone, Copy)]
-pub struct After {
-    pub tally: Tally,
-    pub next: usize,
-}
-
-// The line at `at`.
+// The line in front of the text, of either form.
 fn judge_line(
+    rt: &(impl Print + AllocGlobal),
     text: &[u8],
-    at: usize,
-    output: &mut [u8],
     workspace: &mut [u8],
-    tally: Tally,
-) -> After
-    requires { at < length text.now }
-    ensures { (at < result.next) × (result.next ≤ length text.now) }
-{
-    if text::letter_at(text, at, b'f') {
-        let f = text::read_file(text, at, output);
-        let n = f.count;
-        let judged = judge_file(&output[..n], workspace, tally);
-        return After {
-            tally: judged,
-            next: f.next,
-        };
-    }
-    let mut table = [0u8; 65];
-    let r = text::read_request(text, at, &mut table);
-    let n = r.count;
-    let judged = judge_table(&table[..n], r.m, r.s, output, workspace, tally);
-    After {
-        tally: judged,
-        next: r.next,
+) -> io::Result<Outcome> {
+    let mut words = Line::new(text);
+    if text.starts_with(b"f") {
+        let mut file = vec![in rt.alloc(); 0u8; MOST_BYTES]?;
+        let length = words.file(&mut file);
+        file.truncate(length);
+        judge_file(rt, &file, workspace)
+    } else {
+        let mut table = [0u8; MOST_ENTRIES];
+        let request = words.request(&mut table);
+        let entries = &table[..request.count];
+        judge_table(rt, request.m, request.s, entries, workspace)
     }
 }
 
-// Every line, numbered from 1.
-fn judge_lines(text: &[u8], output: &mut [u8], workspace: &mut [u8]) -> Tally {
-    let mut tally = Tally {
-        counts: [0usize; 64],
-    };
-    let mut line: usize = 0;
-    let mut at: usize = 0;
-    while at < text.len() {
-        line = next(line);
-        print_number(line);
-        let after = judge_line(text, at, output, workspace, tally);
-        print(b"\n");
-        let judged = after.tally;
-        tally = judged;
-        at = after.next;
-    }
-    tally
-}
-
-// How many lines the tally has from a on, below e.
-fn sum_of(tally: Tally, a: usize, e: usize) -> usize
-    requires { e ≤ 64 }
-{
-    let counts = tally.counts;
-    let mut sum: usize = 0;
-    let mut i = a;
-    while i < e {
-        sum = plus(sum, counts[i]);
-        i += 1;
-    }
-    sum
-}
-
-fn plus(a: usize, b: usize) -> usize {
-    if a < 1000000000 {
-        if b < 1000000000 {
-            return a + b;
+fn main(rt: HostRuntime) -> io::Result<()> {
+    let mut input = Vec::new(rt.alloc());
+    rt.stdin().take(MOST_INPUT).read_to_end(&mut input)?;
+    let mut workspace = vec![in rt.alloc(); 0u8; WORKSPACE]?;
+    let mut tally = Tally::new(rt.alloc());
+    let mut text = input.as_slice();
+    // Lines are counted, and each is read with the text behind it, so what the loop goes by is the text.
+    for i in 1..usize::MAX {
+        if text.is_empty() {
+            break;
         }
+        print!(rt; "{i}")?;
+        let outcome = judge_line(&rt, text, &mut workspace)?;
+        println!(rt)?;
+        tally.count(outcome)?;
+        text = behind_line(text);
     }
-    a
-}
-
-// The numbers of refusals from 1 on, each with how often it was given, where it was.
-fn print_counts(tally: Tally, from: usize)
-    requires { from ≤ 32 }
-{
-    let counts = tally.counts;
-    let mut i: usize = 1;
-    while i < 32 {
-        let n = counts[from + i];
-        if n != 0 {
-            print_count(i, n);
-        }
-        i += 1;
-    }
-}
-
-fn print_count(reason: usize, n: usize) {
-    print(b" ");
-    print_number(reason);
-    print(b":");
-    print_number(n);
-}
-
-fn main() {
-    let mut buffer = [0u8; 131072];
-    let n = io::read_full(0, &mut buffer);
-    let mut output = [0u8; 32768];
-    let mut workspace = [0u8; 131072];
-    let tally = judge_lines(&buffer[..n], &mut output, &mut workspace);
-    print(b"accepted ");
-    print_number(sum_of(tally, 32, 33));
-    print(b" refused ");
-    print_number(plus(sum_of(tally, 1, 32), sum_of(tally, 33, 64)));
-    print(b" produce");
-    print_counts(tally, 0);
-    print(b" verdict");
-    print_counts(tally, 32);
-    print(b"\n");
+    println!(rt; "{tally}")
 }

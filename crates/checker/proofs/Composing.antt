@@ -6,19 +6,20 @@ use Prim.Native.Nat.{ℕ, ◌+◌, ◌^◌, ◌<◌, ◌≤◌}
 use native.Mathlib.Nat.{not-suc-le-zero, lt_irrefl}
 use native.Mathlib.Omega.{arith}
 use lib.ListN.{length, get_or, set, take, length-set}
-use lib.Seq.{get_or-set_same, get_or-set_other}
+use lib.Seq.{get_or-set_same, get_or-set_other, get_or-take}
+use Rattle.std.proofs.lemmas.List.{length-take-le}
 use lib.Pow.{pow_mono}
+use mathlib.Core.Bool.{Bool, true, false}
 use lib.Dec.{eqb}
-use mathlib.Core.Bool.{true, false}
-use borrow.Author.Tests.{eq-eqb, ne_eqb}
-use Rattle.finite.specs.Tests.{all}
-use Rattle.finite.proofs.Testing.{all_more, all_fails}
-use Rattle.anf.specs.Tables.{entry}
+use lib.Pointwise.{pointwise}
+use Rattle.std.specs.Cmp.Lexicographic.{same_text, other_text}
+use borrow.Author.Tests.{eqb-true, eq-eqb}
+use Rattle.finite.proofs.Testing.{not_true_false, all_at, all_intro, tabulate_of}
 use Rattle.design.specs.Limits.{greatest_points}
 use Rattle.design.specs.Design.{stage_of}
 use Rattle.design.specs.Reading.{meaning}
 use Rattle.design.specs.Inside.Described.{Describes}
-use Rattle.design.specs.declared.Layout.{Layout}
+use Rattle.design.specs.Heads.{laid_by}
 use Rattle.design.proofs.Answered.{described}
 use Rattle.threshold.specs.Chain.{chained}
 use Rattle.checker.specs.Verdict.{chain_is_box}
@@ -74,89 +75,80 @@ through_end table from l x n so up low y h = filled_end (through_at table from) 
 unfoldable pub ComposedTo : List ℕ → ℕ → List ℕ → Type 0
 ComposedTo f t c = (x : ℕ) → x < 2 ^ (meaning f).m → get_or c x 0 ≡ chained (take t (meaning f).stages) x
 
-module _ (f : List ℕ) (l : Layout) (d : Describes f l) where
-  points_most : 2 ^ l.head.m ≤ greatest_points
+module _ (f starts : List ℕ) (m s k : ℕ) (d : Describes f (laid_by m s k starts)) where
+  points_most : 2 ^ m ≤ greatest_points
   points_most = pow_mono (described d).bounds.m_high
 
-  same_points : 2 ^ l.head.m ≡ 2 ^ (meaning f).m
-  same_points = ap (λ (m : ℕ). 2 ^ m) (described d).m
+  same_points : 2 ^ m ≡ 2 ^ (meaning f).m
+  same_points = ap (λ (x : ℕ). 2 ^ x) (described d).m
 
-  pub few_points : l.head.m < 64
-  few_points = let q = (described d).bounds.m_high in omega arith
-
-  pub points_fit : (n : ℕ) → n ≡ 2 ^ l.head.m → n ≤ greatest_points
+  pub points_fit : (n : ℕ) → n ≡ 2 ^ m → n ≤ greatest_points
   points_fit n e = let q = points_most in omega arith
 
   pub composed_start : (c : List ℕ) → ((x : ℕ) → x < greatest_points → get_or c x 0 ≡ x) → ComposedTo f 0 c
   unfolding ComposedTo
-  composed_start c h x k = h x (let e = same_points in let q = points_most in omega arith) ∙ sym (chained_none (meaning f).stages x)
+  composed_start c h x l = h x (let e = same_points in let q = points_most in omega arith) ∙ sym (chained_none (meaning f).stages x)
 
-  stages : length (meaning f).stages ≡ l.head.k
-  stages = (described d).formed.count ∙ sym (described d).k
+  many : length (meaning f).stages ≡ k
+  many = (described d).formed.count ∙ sym (described d).k
 
   -- b is the table of stage t, n the number of its entries
-  module _ (c : List ℕ) (t : ℕ) (so : ComposedTo f t c) (h : t < l.head.k) (b : List ℕ) (e : b ≡ (stage_of (meaning f) t).table) (n : ℕ) (en : n ≡ 2 ^ l.head.m) where
+  module _ (c : List ℕ) (t : ℕ) (so : ComposedTo f t c) (h : t < k) (b : List ℕ) (e : b ≡ (stage_of (meaning f) t).table) (n : ℕ) (en : n ≡ 2 ^ m) where
     pub composed_within : (x : ℕ) → x < n → get_or c x 0 < length b
     unfolding ComposedTo
-    composed_within x k =
+    composed_within x l =
         let q = same_points in
         let w = (described d).formed in
-        let s = stages in
+        let o = many in
         let z : get_or c x 0 < 2 ^ (meaning f).m =
         subst (λ (y : ℕ). y < 2 ^ (meaning f).m) (sym (so x (omega arith)))
         (chained_lt (2 ^ (meaning f).m) (meaning f).stages (λ i j. (w.stage i (let g = w.count in omega arith)).table.below) t x (omega arith) (omega arith)) in
-        omega (arith, ap length e, table_size f l d t h)
+        omega (arith, ap length e, table_size f starts m s k d t h)
 
     pub composed_step : (r : List ℕ) → ((x : ℕ) → x < n → get_or r x 0 ≡ get_or b (get_or c x 0) 0) → ComposedTo f (t + 1) r
     unfolding ComposedTo
-    composed_step r g x k =
+    composed_step r g x l =
         let q = same_points in
-        let s = stages in
         g x (omega arith)
         ∙ ap (λ (y : List ℕ). get_or y (get_or c x 0) 0) e
-        ∙ ap (λ (y : ℕ). get_or (stage_of (meaning f) t).table y 0) (so x k)
-        ∙ sym (chained_next (meaning f).stages t x (omega arith))
+        ∙ ap (λ (y : ℕ). get_or (stage_of (meaning f) t).table y 0) (so x l)
+        ∙ sym (chained_next (meaning f).stages t x (omega (arith, many)))
 
-  pub composed_end : (c : List ℕ) (t : ℕ) → ComposedTo f t c → t ≤ l.head.k → l.head.k ≤ t → Composes (meaning f) l.head.m c
+  pub composed_end : (c : List ℕ) (t : ℕ) → ComposedTo f t c → t ≤ k → k ≤ t → Composes (meaning f) m c
   unfolding ComposedTo Composes
-  composed_end c t so up low x k =
+  composed_end c t so up low x l =
       let q = same_points in
-      let s = stages in
-      so x (omega arith) ∙ chained_all (meaning f).stages t x (omega arith)
+      so x (omega arith) ∙ chained_all (meaning f).stages t x (omega (arith, many))
 
--- ---- `chain_is_box`: c is the composed table, b is S; they agree below x
+  -- ---- `chain_is_box`: c is the composed table, b is S, r whether they are the same
 
-unfoldable pub SameTo : List ℕ → ℕ → Type 0
-SameTo f x = all x (λ x. eqb (chained (meaning f).stages x) (entry (meaning f).box x)) ≡ true
+  module _ (b : List ℕ) (e : b ≡ (meaning f).box) where
+    box_size : length b ≡ 2 ^ m
+    box_size = ap length e ∙ (described d).formed.box.size ∙ sym same_points
 
-pub same_start : (f : List ℕ) → SameTo f 0
-unfolding SameTo all
-same_start f = refl
+    pub box_within : (c : List ℕ) → length c ≡ greatest_points → length b ≤ length c
+    box_within c q = omega (arith, box_size, points_most)
 
-module _ (f c b : List ℕ) (x : ℕ) where
-  box_size : (l : Layout) → Describes f l → b ≡ (meaning f).box → length b ≡ 2 ^ l.head.m
-  box_size l d e = ap length e ∙ (described d).formed.box.size ∙ sym (same_points f l d)
+    module _ (c : List ℕ) (so : Composes (meaning f) m c) where
+      entries : (x : ℕ) → x < length b → get_or (take (length b) c) x 0 ≡ chained (meaning f).stages x
+      unfolding Composes
+      entries x l = get_or-take (length b) c x 0 l ∙ so x (omega (arith, box_size))
 
-  pub same_inside : x < length b → b ≡ (meaning f).box → (l : Layout) → Describes f l → x < greatest_points
-  same_inside h e l d = omega (arith, box_size l d e, points_most f l d)
+      same : take (length b) c ≡ b → chain_is_box (meaning f) ≡ true
+      unfolding chain_is_box
+      same q =
+          all_intro _ _
+          (λ x l. let i : x < length b = omega (arith, box_size, same_points) in eq-eqb _ _ (sym (entries x i) ∙ ap (λ (y : List ℕ). get_or y x 0) (q ∙ e)))
 
-  module _ (l : Layout) (d : Describes f l) (h : x < length b) (e : b ≡ (meaning f).box) (so : Composes (meaning f) l.head.m c) where
-    this : get_or c x 0 ≡ chained (meaning f).stages x
-    unfolding Composes
-    this = so x (omega (arith, box_size l d e))
+      same_back : length c ≡ greatest_points → chain_is_box (meaning f) ≡ true → take (length b) c ≡ b
+      unfolding chain_is_box
+      same_back q t =
+          sym (tabulate_of (take (length b) c) (length b) _ 0 (length-take-le (length b) c (box_within c q)) (λ x l. sym (entries x l)))
+          ∙ tabulate_of b (length b) _ 0 refl (λ x l. eqb-true _ _ (all_at _ _ t x (omega (arith, box_size, same_points))) ∙ sym (ap (λ (y : List ℕ). get_or y x 0) e))
 
-    that : get_or b x 0 ≡ entry (meaning f).box x
-    that = ap (λ (y : List ℕ). get_or y x 0) e
+      pub chain_same : length c ≡ greatest_points → (r : Bool) → r ≡ pointwise eqb (take (length b) c) b → r ≡ chain_is_box (meaning f)
+      chain_same q true t = sym (same (same_text _ _ t))
+      chain_same q false t = sym (not_true_false _ (λ y. other_text _ _ t (same_back q y)))
 
-  pub same_next : SameTo f x → (l : Layout) → Describes f l → x < length b → b ≡ (meaning f).box → Composes (meaning f) l.head.m c → get_or c x 0 ≡ get_or b x 0 → SameTo f (x + 1)
-  unfolding SameTo
-  same_next a l d h e so q = all_more x _ a (eq-eqb _ _ (sym (this l d h e so) ∙ q ∙ that l d h e so))
-
-  pub same_not : (l : Layout) → Describes f l → x < length b → b ≡ (meaning f).box → Composes (meaning f) l.head.m c → (get_or c x 0 ≡ get_or b x 0 → ⊥) → false ≡ chain_is_box (meaning f)
-  unfolding chain_is_box
-  same_not l d h e so ne =
-      sym (all_fails (2 ^ (meaning f).m) _ x (omega (arith, box_size l d e, same_points f l d)) (ne_eqb _ _ (λ q. ne (this l d h e so ∙ q ∙ sym (that l d h e so)))))
-
-pub same_all : (f b : List ℕ) (x : ℕ) → SameTo f x → x ≤ length b → length b ≤ x → b ≡ (meaning f).box → (l : Layout) → Describes f l → true ≡ chain_is_box (meaning f)
-unfolding SameTo chain_is_box
-same_all f b x a up low e l d = let z : x ≡ 2 ^ (meaning f).m = omega (arith, box_size f b b x l d e, same_points f l d) in sym (rw z at a)
+    pub box_taken : (c : List ℕ) → length c ≡ greatest_points → length b ≡ length (take (length b) c)
+    box_taken c q = sym (length-take-le (length b) c (box_within c q))

@@ -1,49 +1,46 @@
--- The forecast: the laws of `workspace_for`, `most_trials` and `foresee`, over plain values. h is a head, x what was read of the head record of the file f.
+-- The forecast: the laws of `most_trials` and `foresee`, over plain values. m, s and k are the numbers of a head, f is the file.
 -- Assumes nothing.
-use mathlib.Core.Path.{◌≡◌, sym, ap, ap₂, ◌∙◌}
+use mathlib.Core.Path.{◌≡◌, refl, sym, ap, ap₂, ◌∙◌}
 use mathlib.Core.List.{List}
-use Prim.Native.Nat.{ℕ, ◌*◌, ◌^◌, ◌<◌, ◌≤◌}
+use mathlib.Core.Bool.{false}
+use Prim.Native.Nat.{ℕ, ◌*◌, ◌^◌, ◌<◌}
 use native.Mathlib.Omega.{arith}
 use borrow.Author.Tests.{eq-eqb, ne_eqb}
 use Rattle.finite.proofs.Testing.{pick_true, pick_false}
-use Rattle.design.specs.Limits.{greatest_share_bits}
-use Rattle.design.specs.Layout.{head_read}
-use Rattle.design.specs.Inside.Described.{Limits}
-use Rattle.design.specs.declared.Head.{Head}
-use Rattle.design.specs.declared.HeadRead.{HeadRead}
+use Rattle.reasons.specs.Numbers.{number}
+use Rattle.reasons.specs.declared.Reason.{Reason}
+use Rattle.reasons.proofs.Numbers.{number_some}
+use Rattle.design.specs.Limits.{broken}
+use Rattle.design.specs.Layout.{HeadRead, refused_head, head_read}
 use Rattle.design.proofs.Limits.{bounds}
-use Rattle.design.proofs.Answering.{head_reason, head_read_lem, head_limits}
+use Rattle.design.proofs.Answering.{head_reason, head_read_lem}
 use Rattle.checker.specs.Verdict.{workspace_for}
 use Rattle.checker.specs.Trials.{most_trials, forecast_for, no_forecast, forecast}
 use Rattle.checker.proofs.Passes.{few_trials}
 
--- ---- a head within the limits
+-- ---- `most_trials`: n is the number of sharings
 
-module _ (h : Head) (w : Limits h) where
+module _ (m s k : ℕ) (limits : broken m s k ≡ false) where
   -- two passes of each stage, and all their trials, in a word
-  pub passes_fit : 2 * h.k < 2 ^ 64
-  passes_fit = omega (arith, (bounds _ _ _ w).k_high)
+  pub passes_fit : 2 * k < 2 ^ 64
+  passes_fit = omega (arith, (bounds m s k limits).k_high)
 
-  pub most_fits : (n : ℕ) → n ≡ 2 ^ (h.m * h.s) → 2 * h.k * n < 2 ^ 64
-  most_fits n e = let b = bounds _ _ _ w in rw e (omega (arith, few_trials (h.m * h.s) h.k b.bits b.k_high))
+  pub most_fits : (bits : ℕ) → bits ≡ m * s → (n : ℕ) → n ≡ 2 ^ bits → 2 * k * n < 2 ^ 64
+  most_fits bits eb n e = let b = bounds m s k limits in rw (e, eb) (omega (arith, few_trials (m * s) k b.bits b.k_high))
 
-  pub most_is : (n : ℕ) → n ≡ 2 ^ (h.m * h.s) → 2 * h.k * n ≡ most_trials h.m h.s h.k
-  most_is n e = ap (λ (x : ℕ). 2 * h.k * x) e
+-- ---- `foresee`: the head record is refused, or is read with these numbers
 
--- ---- `foresee`
-
-module _ (f : List ℕ) (x : HeadRead) (ex : x ≡ head_read f) where
-  pub none_foreseen : (x.reason ≡ 0 → ⊥) → no_forecast x.reason ≡ forecast f
+module _ (f : List ℕ) where
+  pub none_foreseen : (r : Reason) → refused_head (number r) ≡ head_read f → no_forecast (number r) ≡ forecast f
   unfolding forecast
-  none_foreseen n = let e = head_reason f x ex in ap no_forecast e ∙ sym (pick_false _ _ _ (ne_eqb _ 0 (λ z. n (e ∙ z))))
+  none_foreseen r e =
+      let q = head_reason f (refused_head (number r)) e in
+      ap no_forecast q ∙ sym (pick_false _ _ _ (ne_eqb _ 0 (λ z. number_some r (q ∙ z))))
 
-  module _ (z : x.reason ≡ 0) where
-    pub head_bits : x.head.m * x.head.s ≤ greatest_share_bits
-    head_bits = (bounds _ _ _ (head_limits f x ex z)).bits
-
-    pub foreseen : (w n : ℕ) → w ≡ workspace_for x.head.m x.head.s → n ≡ most_trials x.head.m x.head.s x.head.k
-        → record { reason = 0; workspace = w; trials = n } ≡ forecast f
-    unfolding forecast
-    foreseen w n a b =
-        ap₂ (λ (p q : ℕ). record { reason = 0; workspace = p; trials = q }) a b ∙ ap forecast_for (head_read_lem f x ex z)
-        ∙ sym (pick_true _ _ _ (eq-eqb _ 0 (sym (head_reason f x ex) ∙ z)))
+  pub foreseen : (m s k : ℕ) → record { reason = 0; head = record { m = m; s = s; k = k } } ≡ head_read f → (w n : ℕ)
+      → w ≡ workspace_for m s → n ≡ most_trials m s k → record { reason = 0; workspace = w; trials = n } ≡ forecast f
+  unfolding forecast
+  foreseen m s k e w n a b =
+      let x : HeadRead = record { reason = 0; head = record { m = m; s = s; k = k } } in
+      ap₂ (λ (p q : ℕ). record { reason = 0; workspace = p; trials = q }) a b ∙ ap forecast_for (head_read_lem f x e refl)
+      ∙ sym (pick_true _ _ _ (eq-eqb _ 0 (sym (head_reason f x e))))

@@ -1,8 +1,14 @@
--- The verdict at each way out of `judge`, `judge_design` and `judge_chain`, with its trials, over plain values: l is what was read of the file f, ws the
--- workspace that came in, v what is answered. A premise is a test as the code has it, or what a call's contract says of its result.
+-- The verdict at each way out of `judge_file`, `judge_design` and `judge_chain`, and its trials, over plain values: m, s and k are the numbers of the
+-- head of the file f, ws the workspace that came in, v what is answered or the refusal, z the trials. A premise is a test as the code has it, or what a call's contract says of its result.
 -- Assumes nothing.
-use mathlib.Core.Path.{◌≡◌, refl, sym, ap, ap₂, ◌∙◌}
+use mathlib.Core.Path.{◌≡◌, refl, sym, ap, ap₂, ◌∙◌, subst}
 use mathlib.Core.List.{List}
+use Rattle.std.specs.Prelude.{Option, Some, None}
+use Rattle.reasons.specs.Numbers.{number}
+use Rattle.reasons.specs.declared.Reason.{Reason}
+use Rattle.reasons.proofs.Numbers.{number_some}
+use Rattle.reasons.specs.declared.Reason.TheVariants.{BoxRepeats, WorkspaceTooSmall, ChainIsNotBox, StageRepeats}
+use Rattle.design.specs.Design.{Design}
 use mathlib.Core.Bool.{Bool, true, false, not}
 use Prim.Native.Nat.{ℕ, ◌+◌, ◌^◌, ◌<◌, ◌≤◌}
 use native.Mathlib.Omega.{arith}
@@ -12,135 +18,178 @@ use borrow.Author.Tests.{lt-ltb, le-ltb}
 use Rattle.finite.specs.Maps.{repeats}
 use Rattle.finite.proofs.Faults.{fault_here, fault_past}
 use Rattle.anf.specs.Tables.{entry}
-use Rattle.design.specs.Reading.{meaning}
-use Rattle.design.specs.Layout.{layout_of}
+use Rattle.design.specs.Reading.{refused, reading, meaning}
+use Rattle.design.specs.Layout.{refused_layout, layout_of}
 use Rattle.design.specs.Inside.Described.{Describes}
-use Rattle.design.specs.declared.Layout.{Layout}
+use Rattle.design.specs.Heads.{laid_by}
 use Rattle.design.proofs.Answered.{described, answers_described, refuses}
 use Rattle.design.proofs.Reasons.{reason_range}
-use Rattle.checker.specs.Verdict.{answer, workspace_for, chain_is_box, first_repeating, judged, judged_reading, verdict, zeroed, workspace_left, workspace_after}
-use Rattle.checker.specs.Trials.{trials, counted, judging}
-use Rattle.checker.specs.Inside.Parts.{stages_judged, chain_judged, with_trials}
-use Rattle.checker.specs.Inside.Marks.{mark_bytes}
+use Rattle.checker.specs.Verdict.{answer, workspace_for, chain_is_box, table_repeats, first_repeating, judged, judged_reading, verdict, zeroed, workspace_left, workspace_after}
+use Rattle.checker.specs.Trials.{trials_of, trials}
+use Rattle.checker.specs.Outcome.{refusal, refused_with}
+use Rattle.checker.specs.Inside.Parts.{NoneRepeats, stages_judged, chain_judged, found, FoundBelow}
 use Rattle.checker.specs.declared.Verdict.{Verdict}
-use Rattle.checker.specs.declared.Judged.{Judged}
-use Rattle.checker.proofs.Passes.{no_trials}
+use Rattle.checker.specs.declared.Refusal.{Refusal}
+use Rattle.checker.proofs.Passes.{found_is, found_below, none_found, untried}
 use Rattle.checker.proofs.Workspace.{untouched, cleared, late_reasons}
-use Rattle.checker.proofs.Repeating.{some_repeat, none_repeat, box_repeats}
+use Rattle.checker.proofs.Repeating.{box_repeats}
 
--- ---- `judge`
+-- a verdict with 1 to 11 takes no trials, and none were counted before
+untried_yet : (d : Design) (a b : Verdict) → a ≡ b → 1 ≤ a.reason → a.reason ≤ 11 → (z : ℕ) → z ≡ 0 → z ≡ trials_of d b
+untried_yet d a b e l h z q = q ∙ sym (untried d a l h) ∙ ap (trials_of d) e
 
-module _ (f : List ℕ) (l : Layout) (a : l ≡ layout_of f) where
-  module _ (n : l.reason ≡ 0 → ⊥) where
-    unread_verdict : (k : ℕ) → answer l.reason l.place 0 ≡ verdict f k
-    unfolding verdict judged_reading
-    unread_verdict k = rw (refuses f l a n)
+-- ---- `judge_file`: the file is refused with the reason r and the place p, or reads as g, which is the same file; z trials were counted before
 
-    pub unread : (k : ℕ) (v : Judged) → v ≡ counted (answer l.reason l.place 0) 0 → v ≡ judging f k
-    unfolding judging trials
-    unread k v e =
-        let r = reason_range f l.reason l.place (refuses f l a n) in
-        e ∙ no_trials (meaning f) (answer l.reason l.place 0) r.0 (omega arith) ∙ ap (with_trials (meaning f)) (unread_verdict k)
+module _ (f : List ℕ) (r : Reason) (p : ℕ) (a : refused_layout (number r) p ≡ layout_of f) where
+  refusal_is : reading f ≡ refused (number r) p
+  refusal_is = refuses f _ a (number_some r)
 
-    pub unread_after : (ws : List ℕ) → ws ≡ workspace_after f ws
-    unfolding workspace_after
-    unread_after ws =
-        let r = reason_range f l.reason l.place (refuses f l a n) in
-        rw (← unread_verdict (length ws)) (sym (untouched (meaning f) l.reason ws r.0 (omega arith)))
+  low : 1 ≤ number r
+  low = (reason_range f (number r) p refusal_is).0
 
-  module _ (z : l.reason ≡ 0) where
-    read_verdict : (k : ℕ) → judged (meaning f) k ≡ verdict f k
-    unfolding verdict judged_reading
-    read_verdict k = rw (answers_described f l a z).read refl
+  high : number r ≤ 7
+  high = (reason_range f (number r) p refusal_is).1
 
-    pub design_answers : (k : ℕ) (v : Judged) → v ≡ with_trials (meaning f) (judged (meaning f) k) → v ≡ judging f k
-    unfolding judging trials
-    design_answers k v e = e ∙ ap (with_trials (meaning f)) (read_verdict k)
+  pub unread : (n : ℕ) → answer (number r) p 0 ≡ verdict f n
+  unfolding verdict judged_reading
+  unread n = rw refusal_is
 
-    pub design_after : (ws ws₁ : List ℕ) → ws₁ ≡ workspace_left (meaning f) (judged (meaning f) (length ws)).reason ws → ws₁ ≡ workspace_after f ws
-    unfolding workspace_after
-    design_after ws ws₁ e = e ∙ ap (λ (v : Verdict). workspace_left (meaning f) v.reason ws) (read_verdict (length ws))
+  pub unread_trials : (z : ℕ) → z ≡ 0 → (n : ℕ) → z ≡ trials f n
+  unfolding trials
+  unread_trials z e n = untried_yet (meaning f) _ _ (unread n) low (omega (arith, high)) z e
 
--- a verdict with 8 to 11, which takes no trials
-untried_answer : (f : List ℕ) (a b : Verdict) → a ≡ b → 1 ≤ a.reason → a.reason ≤ 11 → (v : Judged) → v ≡ counted a 0 → v ≡ with_trials (meaning f) b
-untried_answer f a b e l h v is = is ∙ no_trials (meaning f) a l h ∙ ap (with_trials (meaning f)) e
+  pub unread_after : (ws : List ℕ) → ws ≡ workspace_after f ws
+  unfolding workspace_after
+  unread_after ws = rw (← unread (length ws)) (sym (untouched (meaning f) (number r) ws low (omega (arith, high))))
+
+module _ (f g starts : List ℕ) (m s k : ℕ) (a : laid_by m s k starts ≡ layout_of f) (same : g ≡ f) where
+  read_verdict : (n : ℕ) → judged (meaning g) n ≡ verdict f n
+  unfolding verdict judged_reading
+  read_verdict n = rw (same, (answers_described f _ a refl).read) refl
+
+  pub design_answers : (n : ℕ) (v : Verdict) → v ≡ judged (meaning g) n → v ≡ verdict f n
+  design_answers n v e = e ∙ read_verdict n
+
+  pub design_trials : (n z : ℕ) → z ≡ trials_of (meaning g) (judged (meaning g) n) → z ≡ trials f n
+  unfolding trials
+  design_trials n z e = e ∙ ap₂ (λ (x : List ℕ) (v : Verdict). trials_of (meaning x) v) same (read_verdict n)
+
+  pub design_after : (ws ws₁ : List ℕ) → ws₁ ≡ workspace_left (meaning g) (judged (meaning g) (length ws)).reason ws → ws₁ ≡ workspace_after f ws
+  unfolding workspace_after
+  design_after ws ws₁ e = e ∙ ap₂ (λ (x : List ℕ) (v : Verdict). workspace_left (meaning x) v.reason ws) same (read_verdict (length ws))
 
 -- ---- `judge_design`
 
-module _ (f : List ℕ) (l : Layout) (d : Describes f l) where
-  marks_for : mark_bytes l ≡ workspace_for (meaning f).m (meaning f).s
-  marks_for = ap₂ workspace_for (described d).m (described d).s
+module _ (f starts : List ℕ) (m s k : ℕ) (d : Describes f (laid_by m s k starts)) where
+  same_bytes : workspace_for m s ≡ workspace_for (meaning f).m (meaning f).s
+  same_bytes = ap₂ workspace_for (described d).m (described d).s
 
   module _ (b : List ℕ) (eb : b ≡ (meaning f).box) (r : Bool) (er : r ≡ repeats (length b) (entry b)) (ws : List ℕ) where
     box : repeats (2 ^ (meaning f).m) (entry (meaning f).box) ≡ r
-    box = sym (er ∙ box_repeats f l d b eb)
+    box = sym (er ∙ box_repeats f starts m s k d b eb)
 
     module _ (q : r ≡ true) where
       eight : answer 8 0 0 ≡ judged (meaning f) (length ws)
       unfolding judged
       eight = sym (fault_here _ _ _ _ (box ∙ q))
 
-      pub box_repeated : (v : Judged) → v ≡ counted (answer 8 0 0) 0 → v ≡ with_trials (meaning f) (judged (meaning f) (length ws))
-      box_repeated v e = untried_answer f _ _ eight (omega arith) (omega arith) v e
+      pub box_repeated : (v : Refusal) → v ≡ refusal BoxRepeats 0 0 → refused_with v ≡ judged (meaning f) (length ws)
+      box_repeated v is = ap refused_with is ∙ eight
+
+      pub box_repeated_trials : (z : ℕ) → z ≡ 0 → z ≡ trials_of (meaning f) (judged (meaning f) (length ws))
+      box_repeated_trials z e = untried_yet (meaning f) _ _ eight (omega arith) (omega arith) z e
 
       pub box_repeated_after : ws ≡ workspace_left (meaning f) (judged (meaning f) (length ws)).reason ws
       box_repeated_after = rw (← eight) (sym (untouched (meaning f) 8 ws (omega arith) (omega arith)))
 
-    module _ (q : r ≡ false) (n : ℕ) (en : n ≡ mark_bytes l) where
+    module _ (q : r ≡ false) (n : ℕ) (en : n ≡ workspace_for m s) where
       module _ (h : length ws < n) where
         small : ltb (length ws) (workspace_for (meaning f).m (meaning f).s) ≡ true
-        small = lt-ltb (length ws) (workspace_for (meaning f).m (meaning f).s) (let e = marks_for in omega arith)
+        small = lt-ltb (length ws) (workspace_for (meaning f).m (meaning f).s) (let e = same_bytes in omega arith)
 
         nine : answer 9 0 0 ≡ judged (meaning f) (length ws)
         unfolding judged
         nine = sym (fault_past _ _ _ _ (box ∙ q) ∙ fault_here _ _ _ _ small)
 
-        pub no_room : (v : Judged) → v ≡ counted (answer 9 0 0) 0 → v ≡ with_trials (meaning f) (judged (meaning f) (length ws))
-        no_room v e = untried_answer f _ _ nine (omega arith) (omega arith) v e
+        pub no_room : (v : Refusal) → v ≡ refusal WorkspaceTooSmall 0 0 → refused_with v ≡ judged (meaning f) (length ws)
+        no_room v is = ap refused_with is ∙ nine
+
+        pub no_room_trials : (z : ℕ) → z ≡ 0 → z ≡ trials_of (meaning f) (judged (meaning f) (length ws))
+        no_room_trials z e = untried_yet (meaning f) _ _ nine (omega arith) (omega arith) z e
 
         pub no_room_after : ws ≡ workspace_left (meaning f) (judged (meaning f) (length ws)).reason ws
         no_room_after = rw (← nine) (sym (untouched (meaning f) 9 ws (omega arith) (omega arith)))
 
       module _ (h : n ≤ length ws) where
         room : ltb (length ws) (workspace_for (meaning f).m (meaning f).s) ≡ false
-        room = le-ltb (length ws) (workspace_for (meaning f).m (meaning f).s) (let e = marks_for in omega arith)
+        room = le-ltb (length ws) (workspace_for (meaning f).m (meaning f).s) (let e = same_bytes in omega arith)
 
         onward : chain_judged (meaning f) ≡ judged (meaning f) (length ws)
         unfolding judged chain_judged
         onward = sym (fault_past _ _ _ _ (box ∙ q) ∙ fault_past _ _ _ _ room)
 
-        pub chain_answers : (v : Judged) → v ≡ with_trials (meaning f) (chain_judged (meaning f)) → v ≡ with_trials (meaning f) (judged (meaning f) (length ws))
-        chain_answers v e = e ∙ ap (with_trials (meaning f)) onward
+        pub chain_answers : (v : Verdict) → v ≡ chain_judged (meaning f) → v ≡ judged (meaning f) (length ws)
+        chain_answers v e = e ∙ onward
+
+        pub chain_trials : (z : ℕ) → z ≡ trials_of (meaning f) (chain_judged (meaning f)) → z ≡ trials_of (meaning f) (judged (meaning f) (length ws))
+        chain_trials z e = e ∙ ap (trials_of (meaning f)) onward
 
         pub chain_after : (ws₁ ws₂ : List ℕ) → ws₁ ≡ zeroed n ws → ws₂ ≡ ws₁ → ws₂ ≡ workspace_left (meaning f) (judged (meaning f) (length ws)).reason ws
         chain_after ws₁ ws₂ e e₂ =
             rw (← onward)
-            (e₂ ∙ e ∙ ap (λ (x : ℕ). zeroed x ws) (en ∙ marks_for) ∙ sym (cleared (meaning f) (chain_judged (meaning f)).reason ws (late_reasons (meaning f))))
+            (e₂ ∙ e ∙ ap (λ (x : ℕ). zeroed x ws) (en ∙ same_bytes) ∙ sym (cleared (meaning f) (chain_judged (meaning f)).reason ws (late_reasons (meaning f))))
 
 -- ---- `judge_chain`
 
-module _ (f : List ℕ) (l : Layout) (d : Describes f l) (c : Bool) (ec : c ≡ chain_is_box (meaning f)) (v : Judged) where
+module _ (f starts : List ℕ) (m s k : ℕ) (d : Describes f (laid_by m s k starts)) (c : Bool) (ec : c ≡ chain_is_box (meaning f)) where
   tested : not (chain_is_box (meaning f)) ≡ not c
   tested = ap not (sym ec)
 
-  pub chain_wrong : not c ≡ true → v ≡ counted (answer 10 0 0) 0 → v ≡ with_trials (meaning f) (chain_judged (meaning f))
-  unfolding chain_judged
-  chain_wrong n e = untried_answer f _ _ (sym (fault_here _ _ _ _ (tested ∙ n))) (omega arith) (omega arith) v e
+  same_stages : found k (table_repeats (meaning f)) ≡ found (meaning f).k (table_repeats (meaning f))
+  same_stages = ap (λ (n : ℕ). found n (table_repeats (meaning f))) (described d).k
 
-  module _ (y : not c ≡ false) (t : ℕ) (et : t ≡ first_repeating (meaning f)) where
-    pub table_repeated : t < l.head.k → v ≡ counted (answer 11 (t + 1) 0) 0 → v ≡ with_trials (meaning f) (chain_judged (meaning f))
+  -- a stage's number, counted from 1, in a word
+  pub number_fits : (o : Option ℕ) → o ≡ found k (table_repeats (meaning f)) → (t : ℕ) → o ≡ Some t → t + 1 < 2 ^ 64
+  unfolding FoundBelow
+  number_fits o eo t et =
+      let b : FoundBelow k (Some t) = subst (FoundBelow k) (sym eo ∙ et) (found_below k _) in
+      omega (arith, (described d).bounds.k_high)
+
+  module _ (n : not c ≡ true) where
+    ten : answer 10 0 0 ≡ chain_judged (meaning f)
     unfolding chain_judged
-    table_repeated h e =
-        untried_answer f _ _
-        (ap (λ (x : ℕ). answer 11 (x + 1) 0) et
-        ∙ sym (fault_past _ _ _ _ (tested ∙ y) ∙ fault_here _ _ _ _ (some_repeat (meaning f) (let k = (described d).k in omega arith))))
-        (omega arith) (omega arith) v e
+    ten = sym (fault_here _ _ _ _ (tested ∙ n))
 
-    pub stages_answer : l.head.k ≤ t → v ≡ with_trials (meaning f) (stages_judged (meaning f)) → v ≡ with_trials (meaning f) (chain_judged (meaning f))
-    unfolding chain_judged stages_judged
-    stages_answer h e =
-        e ∙ ap (with_trials (meaning f))
-        (sym (fault_past _ _ _ _ (tested ∙ y) ∙ fault_past _ _ _ _ (none_repeat (meaning f) (let k = (described d).k in omega arith))))
+    pub chain_wrong : (v : Refusal) → v ≡ refusal ChainIsNotBox 0 0 → refused_with v ≡ chain_judged (meaning f)
+    chain_wrong v is = ap refused_with is ∙ ten
 
-pub none_left : (t k n : ℕ) → t ≡ n → k ≤ t → k ≤ n
-none_left t k n e h = omega arith
+    pub chain_wrong_trials : (z : ℕ) → z ≡ 0 → z ≡ trials_of (meaning f) (chain_judged (meaning f))
+    chain_wrong_trials z e = untried_yet (meaning f) _ _ ten (omega arith) (omega arith) z e
+
+  module _ (y : not c ≡ false) where
+    module _ (t : ℕ) (o : Option ℕ) (eo : o ≡ found k (table_repeats (meaning f))) (et : o ≡ Some t) where
+      eleven : answer 11 (t + 1) 0 ≡ chain_judged (meaning f)
+      unfolding chain_judged first_repeating
+      eleven =
+          let o = found_is (meaning f).k (table_repeats (meaning f)) t (sym et ∙ eo ∙ same_stages) in
+          ap (λ (x : ℕ). answer 11 (x + 1) 0) (sym o.1) ∙ sym (fault_past _ _ _ _ (tested ∙ y) ∙ fault_here _ _ _ _ o.0)
+
+      pub table_repeated : (v : Refusal) → v ≡ refusal StageRepeats (t + 1) 0 → refused_with v ≡ chain_judged (meaning f)
+      table_repeated v is = ap refused_with is ∙ eleven
+
+      pub table_repeated_trials : (z : ℕ) → z ≡ 0 → z ≡ trials_of (meaning f) (chain_judged (meaning f))
+      table_repeated_trials z e = untried_yet (meaning f) _ _ eleven (omega arith) (omega arith) z e
+
+    module _ (o : Option ℕ) (eo : o ≡ found k (table_repeats (meaning f))) (et : o ≡ None) where
+      pub none_repeats : NoneRepeats (meaning f)
+      none_repeats = none_found (meaning f).k (table_repeats (meaning f)) (sym et ∙ eo ∙ same_stages)
+
+      onward_stages : stages_judged (meaning f) ≡ chain_judged (meaning f)
+      unfolding chain_judged stages_judged
+      onward_stages = sym (fault_past _ _ _ _ (tested ∙ y) ∙ fault_past _ _ _ _ none_repeats)
+
+      pub stages_answer : (v : Verdict) → v ≡ stages_judged (meaning f) → v ≡ chain_judged (meaning f)
+      stages_answer v e = e ∙ onward_stages
+
+      pub stages_trials : (z : ℕ) → z ≡ trials_of (meaning f) (stages_judged (meaning f)) → z ≡ trials_of (meaning f) (chain_judged (meaning f))
+      stages_trials z e = e ∙ ap (trials_of (meaning f)) onward_stages

@@ -2,6 +2,7 @@
 pub mod Workspace
 pub mod StageFacts
 pub mod Passes
+pub mod Ranges
 pub mod Marking
 pub mod Repeating
 pub mod Composing

@@ -1,7 +1,8 @@
 -- Marks: marking y marks y and nothing else. A pass that marks outputs meets a mark exactly where an output was met before.
 -- Assumes nothing.
-use mathlib.Core.Path.{◌≡◌, refl, sym, ap, ◌∙◌, subst}
+use mathlib.Core.Path.{◌≡◌, refl, sym, ap, ap₂, ◌∙◌, subst}
 use mathlib.Core.List.{List, ◌++◌}
+use Rattle.std.specs.Prelude.{Option, Some, None}
 use mathlib.Core.Bool.{Bool, true, false, ◌||◌}
 use mathlib.Core.Logic.{◌≢◌}
 use Prim.Native.Nat.{ℕ, ◌+◌, ◌*◌, ◌/◌, ◌%◌, ◌^◌, ◌<◌, ◌≤◌}
@@ -14,27 +15,24 @@ use lib.Seq.{get_or-set_same, get_or-set_other, drop-set-lt}
 use lib.Bits.{bit_or}
 use lib.Pow.{shl_exact}
 use borrow.Author.Tests.{eq-eqb, ne_eqb}
-use borrow.Rule.Slice.Know.{Fit}
-use borrow.Table.Referent.{f_int}
-use mir.Syntax.{w8}
 use Rattle.finite.specs.Tests.{any}
 use Rattle.finite.specs.Maps.{met_before}
 use Rattle.finite.proofs.Testing.{or_right, any_step, any_none_more, or_false_right}
 use Rattle.finite.specs.Sets.{has}
 use Rattle.finite.proofs.Elements.{has_none, has_with, has_with_other}
 use Rattle.finite.proofs.Powers.{eights}
-use Rattle.design.specs.declared.Layout.{Layout}
 use Rattle.design.specs.Inside.Described.{Describes}
-use Rattle.design.specs.Reading.{number_of, meaning}
-use Rattle.design.specs.Inside.StageLists.{lists_of}
+use Rattle.design.specs.Heads.{laid_by}
+use Rattle.design.specs.Reading.{meaning}
+use Rattle.design.proofs.Answered.{described}
 use Rattle.design.specs.Design.{stage_of}
 use Rattle.threshold.specs.Stages.{output}
-use Rattle.checker.specs.Verdict.{zeroed}
-use Rattle.checker.specs.Inside.Marks.{marked, mark, Clear, mark_bytes}
-use Rattle.checker.specs.Inside.Parts.{stopped_at, ended_after, pass, uniformity_pass}
-use Rattle.checker.specs.declared.stages.Pass.{Pass}
-use Rattle.checker.proofs.Passes.{pass_stopped, pass_ended}
-use Rattle.checker.proofs.StageFacts.{enough_bits, stage_stands}
+use Rattle.threshold.proofs.Output.{output_lt}
+use Rattle.checker.specs.Verdict.{workspace_for, zeroed}
+use Rattle.checker.specs.Inside.Marks.{marked, mark, Clear}
+use Rattle.checker.specs.Inside.Parts.{found, first_met}
+use Rattle.checker.proofs.Passes.{found_at, found_none}
+use Rattle.checker.proofs.StageFacts.{lists_many}
 
 -- marking y marks y and nothing else
 mark_same : (l : List ℕ) (y : ℕ) → y / 8 < length l → marked (mark l y) y ≡ true
@@ -88,7 +86,6 @@ clear_none n l rest whole q y h =
 
 -- i outputs are marked, and none twice
 pub record MarkedTo (n : ℕ) (g : ℕ → ℕ) (l₀ l : List ℕ) (i : ℕ) : Type 0 where
-  pub most : i ≤ n
   pub long : length l ≡ length l₀
   pub rest : drop (n / 8) l ≡ drop (n / 8) l₀
   pub once : any i (met_before g) ≡ false
@@ -96,54 +93,70 @@ pub record MarkedTo (n : ℕ) (g : ℕ → ℕ) (l₀ l : List ℕ) (i : ℕ) : 
 
 pub marked_start : (n : ℕ) (g : ℕ → ℕ) (l : List ℕ) → Clear n l → MarkedTo n g l l 0
 unfolding any
-marked_start n g l k = record { most = omega arith; long = refl; rest = refl; once = refl; met = k }
+marked_start n g l k = record { long = refl; rest = refl; once = refl; met = k }
 
--- `try_marks`, at each way out and for a turn: k tries are made, y is the output of try i, q whether it was marked before, l₁ the marks with it
-module _ (e : ℕ) (g : ℕ → ℕ) (l₀ l : List ℕ) (i : ℕ) (r : MarkedTo (2 ^ e) g l₀ l i) (k : ℕ) where
-  module _ (more : i < k) (ek : k ≡ 2 ^ e) (y : ℕ) (below : y < 2 ^ e) (here : y ≡ g i) (low : 3 ≤ e) (room : 2 ^ e / 8 ≤ length l₀) where
-    within : y / 8 < 2 ^ e / 8
-    within = let w = eights e low in omega arith
+-- `first_met_in`, at each way out and for a turn: ls are the lists, y is the output of sharing i, q whether it was marked before, l₁ the marks with it
+module _ (ls : List (List ℕ)) (l₀ l : List ℕ) (i : ℕ) (r : MarkedTo (2 ^ length ls) (output ls) l₀ l i) where
+  module _ (x y : ℕ) (ex : x ≡ i) (ey : y ≡ output ls i) (low : 3 ≤ length ls) (room : 2 ^ length ls / 8 ≤ length l₀) where
+    below : y < 2 ^ length ls
+    below = rw ey (output_lt ls i)
 
-    seen : marked l y ≡ met_before g i
+    within : y / 8 < 2 ^ length ls / 8
+    within = let w = eights (length ls) low in let b = below in omega arith
+
+    seen : marked l y ≡ met_before (output ls) i
     unfolding met_before
-    seen = r.met y below ∙ ap (λ (z : ℕ). any i (λ j. eqb (g j) z)) here
+    seen = r.met y below ∙ ap (λ (z : ℕ). any i (λ j. eqb (output ls j) z)) ey
 
     -- the mark is inside the workspace
     pub marked_inside : y / 8 < length l
     marked_inside = let w = within in let h = r.long in omega arith
 
     -- a mark that is met is an earlier output
-    pub marked_found : (q : Bool) → q ≡ true → q ≡ marked l y → (v : Pass) → v ≡ stopped_at i → v ≡ pass (2 ^ e) (met_before g)
-    marked_found q h m v is = is ∙ pass_stopped (2 ^ e) (met_before g) i (omega arith) r.once (sym seen ∙ sym m ∙ h)
+    pub marked_found : (q : Bool) → q ≡ true → q ≡ marked l y → i < 2 ^ length ls → Some x ≡ found (2 ^ length ls) (met_before (output ls))
+    marked_found q h m k = ap Some ex ∙ found_at (2 ^ length ls) (met_before (output ls)) i k r.once (sym seen ∙ sym m ∙ h)
 
-    pub marked_rest : (l₁ : List ℕ) → l₁ ≡ mark l y → drop (2 ^ e / 8) l₁ ≡ drop (2 ^ e / 8) l₀
-    marked_rest l₁ m = ap (drop (2 ^ e / 8)) m ∙ mark_drop l (2 ^ e / 8) y within ∙ r.rest
+    pub marked_rest : (l₁ : List ℕ) → l₁ ≡ mark l y → drop (2 ^ length ls / 8) l₁ ≡ drop (2 ^ length ls / 8) l₀
+    marked_rest l₁ m = ap (drop (2 ^ length ls / 8)) m ∙ mark_drop l (2 ^ length ls / 8) y within ∙ r.rest
 
-    pub marked_step : (q : Bool) → q ≡ false → q ≡ marked l y → (l₁ : List ℕ) → l₁ ≡ mark l y → MarkedTo (2 ^ e) g l₀ l₁ (i + 1)
+    pub marked_step : (q : Bool) → q ≡ false → q ≡ marked l y → (l₁ : List ℕ) → l₁ ≡ mark l y → MarkedTo (2 ^ length ls) (output ls) l₀ l₁ (i + 1)
     marked_step q h m l₁ is = record {
-      most = omega arith;
       long = ap length is ∙ mark_length l y ∙ r.long;
       rest = marked_rest l₁ is;
-      once = any_none_more i (met_before g) r.once (sym seen ∙ sym m ∙ h);
+      once = any_none_more i (met_before (output ls)) r.once (sym seen ∙ sym m ∙ h);
       met = λ z b.
           ap (λ (w : List ℕ). marked w z) is ∙ mark_marks l y z marked_inside ∙ ap (λ (a : Bool). a || eqb y z) (r.met z b)
-          ∙ ap (λ (w : ℕ). any i (λ j. eqb (g j) z) || eqb w z) here ∙ sym (any_step i (λ j. eqb (g j) z));
+          ∙ ap (λ (w : ℕ). any i (λ j. eqb (output ls j) z) || eqb w z) ey ∙ sym (any_step i (λ j. eqb (output ls j) z));
     }
 
-  module _ (less : k ≤ i) (ek : k ≡ 2 ^ e) where
-    pub marked_none : (v : Pass) → v ≡ ended_after k → v ≡ pass (2 ^ e) (met_before g)
-    marked_none v is =
-        let h = r.most in
-        let z : i ≡ 2 ^ e = omega arith in
-        is ∙ ap ended_after ek ∙ pass_ended (2 ^ e) (met_before g) (rw z at r.once)
+  module _ (z : i ≡ 2 ^ length ls) where
+    pub marked_none : None ≡ found (2 ^ length ls) (met_before (output ls))
+    marked_none = found_none (2 ^ length ls) (met_before (output ls)) (rw z at r.once)
 
--- ---- `try_uniformity`: zeroed bytes mark nothing, and the lists are the stage's
+  pub marked_last : drop (2 ^ length ls / 8) l ≡ drop (2 ^ length ls / 8) l₀
+  marked_last = r.rest
 
-module _ (f : List ℕ) (l : Layout) (d : Describes f l) where
-  pub none_marked : (ws : List ℕ) → zeroed (mark_bytes l) ws ≡ ws → Clear (2 ^ (l.head.m * l.head.s)) ws
-  none_marked ws e = clear_none (2 ^ (l.head.m * l.head.s)) ws (drop (mark_bytes l) ws) (eights _ (enough_bits f l d)) (sym e)
+-- ---- `first_met`: zeroed bytes mark nothing, and the lists are those of stage t
 
-module _ (f : List ℕ) (l : Layout) (t : ℕ) (h : t < l.head.k) (d : Describes f l) (first : ℕ) (e : first ≡ number_of l.head t 1) (bytes : Fit (f_int w8) 0 f) where
-  pub stage_meets : (v : Pass) → v ≡ pass (2 ^ (l.head.m * l.head.s)) (met_before (output (lists_of f l.starts first (l.head.m * l.head.s))))
-      → v ≡ uniformity_pass l.head.m l.head.s (stage_of (meaning f) t)
-  stage_meets v q = q ∙ ap (λ (u : List (List ℕ)). pass (2 ^ (l.head.m * l.head.s)) (met_before (output u))) (stage_stands f l t h d first e bytes).all
+module _ (f starts : List ℕ) (m s k : ℕ) (d : Describes f (laid_by m s k starts)) (t : ℕ) (h : t < k) (ls : List (List ℕ)) (e : ls ≡ (stage_of (meaning f) t).lists) where
+  many : length ls ≡ m * s
+  many = lists_many f starts m s k d t h ls e
+
+  pub enough : 3 ≤ length ls
+  enough = omega (arith, many, (described d).bounds.bits_low)
+
+  same_bytes : 2 ^ length ls / 8 ≡ workspace_for m s
+  same_bytes = ap (λ (x : ℕ). 2 ^ x / 8) many
+
+  pub marks_fit : (ws : List ℕ) → workspace_for m s ≤ length ws → 2 ^ length ls / 8 ≤ length ws
+  marks_fit ws room = omega (arith, same_bytes)
+
+  pub none_marked : (ws : List ℕ) → zeroed (workspace_for m s) ws ≡ ws → Clear (2 ^ length ls) ws
+  none_marked ws z =
+      clear_none (2 ^ length ls) ws (drop (2 ^ length ls / 8) ws) (eights _ enough) (sym z ∙ ap (λ (n : ℕ). zeroed n ws) (sym same_bytes))
+
+  pub stage_meets : (v : Option ℕ) → v ≡ found (2 ^ length ls) (met_before (output ls)) → v ≡ first_met m s (stage_of (meaning f) t)
+  stage_meets v q = q ∙ ap₂ (λ (n : ℕ) (u : List (List ℕ)). found (2 ^ n) (met_before (output u))) many e
+
+  pub rest_kept : (ws ws₁ : List ℕ) → drop (2 ^ length ls / 8) ws₁ ≡ drop (2 ^ length ls / 8) ws → drop (workspace_for m s) ws₁ ≡ drop (workspace_for m s) ws
+  rest_kept ws ws₁ q = rw same_bytes at q

@@ -1,6 +1,7 @@
 -- Passes over the sharings of a stage, and the trials that they add up to.
 -- Assumes nothing.
-use mathlib.Core.Path.{◌≡◌, refl, sym, ap, ap₂, ◌∙◌}
+use mathlib.Core.Path.{◌≡◌, refl, sym, ap, ◌∙◌}
+use Rattle.std.specs.Prelude.{Some, None, is_some}
 use mathlib.Core.Bool.{Bool, true, false, not, ◌||◌}
 use Prim.Native.Nat.{ℕ, zero, suc, ◌+◌, ◌*◌, ◌-◌, ◌^◌, ◌<◌, ◌≤◌}
 use native.Mathlib.Nat.{mul-add, add-mul, mul-le-mul}
@@ -9,42 +10,86 @@ use native.Mathlib.Omega.{arith}
 use lib.Dec.{eqb}
 use lib.Pow.{pow_mono}
 use borrow.Author.Tests.{le-leb}
-use Rattle.finite.specs.Tests.{pick, any, total}
+use Rattle.finite.specs.Tests.{pick, any, first, tried, total}
 use Rattle.finite.specs.Maps.{repeats}
-use Rattle.finite.proofs.Testing.{and_intro, pick_true, any_at, any_not, tried_to, tried_all, tried_most}
+use Rattle.finite.proofs.Testing.{and_intro, pick_true, pick_false, any_at, any_not, first_found, first_is, tried_all, tried_most}
 use Rattle.finite.proofs.Faults.{fault_either, fault_none}
 use Rattle.design.specs.Limits.{greatest_share_bits, greatest_stages}
 use Rattle.design.specs.Design.{Stage, Design, stage_of}
 use Rattle.threshold.specs.Stages.{output, correct}
-use Rattle.checker.specs.Trials.{sums_wrong, output_met, correctness_tries, uniformity_tries, correctness_at, uniformity_at, both_passes, trials_of, counted}
-use Rattle.checker.specs.Inside.Parts.{stopped_at, ended_after, pass, correctness_pass, uniformity_pass, stage_judged, stage_tries, stage_answer, with_trials}
+use Rattle.checker.specs.Trials.{sums_wrong, output_met, correctness_tries, uniformity_tries, correctness_at, uniformity_at, both_passes, trials_of}
+use Rattle.checker.specs.Inside.Parts.{found, FoundBelow, tries_until, first_wrong, first_met, stage_judged, stage_tries}
 use Rattle.checker.specs.declared.Verdict.{Verdict}
 
--- ---- a pass stops, or ends
+-- ---- the first that is found
 
 module _ (n : ℕ) (p : ℕ → Bool) where
-  pub pass_stopped : (x : ℕ) → x < n → any x p ≡ false → p x ≡ true → stopped_at x ≡ pass n p
-  pass_stopped x l a h = ap₂ (λ (b : Bool) (t : ℕ). record { stopped = b; tries = t }) (sym (any_at n p x l h)) (sym (tried_to n p x l a h))
+  pub found_at : (x : ℕ) → x < n → any x p ≡ false → p x ≡ true → Some x ≡ found n p
+  unfolding found
+  found_at x l a h = ap Some (sym (first_found n p x l a h)) ∙ sym (pick_true (any n p) _ _ (any_at n p x l h))
 
-  pub pass_ended : any n p ≡ false → ended_after n ≡ pass n p
-  pass_ended a = ap₂ (λ (b : Bool) (t : ℕ). record { stopped = b; tries = t }) (sym a) (sym (tried_all n p a))
+  pub found_none : any n p ≡ false → None ≡ found n p
+  unfolding found
+  found_none a = sym (pick_false (any n p) _ _ a)
+
+  pub some_found : is_some (found n p) ≡ any n p
+  unfolding found
+  some_found = go (any n p)
+    where
+      go : (b : Bool) → is_some (pick b (Some (first n p)) None) ≡ b
+      go true = refl
+      go false = refl
+
+  pub found_is : (x : ℕ) → Some x ≡ found n p → (any n p ≡ true) × (first n p ≡ x)
+  unfolding found
+  found_is x = go (any n p)
+    where
+      go : (b : Bool) → Some x ≡ pick b (Some (first n p)) None → (b ≡ true) × (first n p ≡ x)
+      go true e = (refl, cc)
+      go false e = absurd (cc)
+
+  pub none_found : None ≡ found n p → any n p ≡ false
+  unfolding found
+  none_found = go (any n p)
+    where
+      go : (b : Bool) → None ≡ pick b (Some (first n p)) None → b ≡ false
+      go true e = absurd (cc)
+      go false e = refl
+
+  pub found_below : FoundBelow n (found n p)
+  unfolding found FoundBelow
+  found_below = go (any n p) refl
+    where
+      go : (b : Bool) → any n p ≡ b → FoundBelow n (pick b (Some (first n p)) None)
+      go true e = (first_is n p e).0
+      go false e = tt
+
+  pub tries_found : tries_until n (found n p) ≡ tried n p
+  unfolding found tries_until tried
+  tries_found = go (any n p)
+    where
+      go : (b : Bool) → tries_until n (pick b (Some (first n p)) None) ≡ pick b (first n p + 1) n
+      go true = refl
+      go false = refl
 
 -- ---- what it says of a stage
 
 module _ (w s : ℕ) (g : Stage) where
-  pub correctness_stopped : (correctness_pass w s g).stopped ≡ not (correct w s g)
+  pub correctness_stopped : is_some (first_wrong w s g) ≡ not (correct w s g)
   unfolding correct
-  correctness_stopped = any_not (2 ^ (w * s)) _
+  correctness_stopped = some_found (2 ^ (w * s)) _ ∙ any_not (2 ^ (w * s)) _
 
-  pub uniformity_stopped : (uniformity_pass w s g).stopped ≡ repeats (2 ^ (w * s)) (output g.lists)
+  pub uniformity_stopped : is_some (first_met w s g) ≡ repeats (2 ^ (w * s)) (output g.lists)
   unfolding repeats
-  uniformity_stopped = refl
+  uniformity_stopped = some_found (2 ^ (w * s)) _
 
   pub correctness_all : correct w s g ≡ true → correctness_tries w s g ≡ 2 ^ (w * s)
-  correctness_all e = tried_all _ _ (correctness_stopped ∙ ap not e)
+  unfolding correct
+  correctness_all e = tried_all _ _ (any_not (2 ^ (w * s)) _ ∙ ap not e)
 
   pub uniformity_all : repeats (2 ^ (w * s)) (output g.lists) ≡ false → uniformity_tries w s g ≡ 2 ^ (w * s)
-  uniformity_all e = tried_all _ _ (uniformity_stopped ∙ e)
+  unfolding repeats
+  uniformity_all e = tried_all _ _ e
 
 -- ---- the trials of the first stages
 
@@ -85,17 +130,9 @@ module _ (d : Design) where
   unfolding trials_of
   untried v l h = pick_true _ _ _ (and_intro (le-leb 1 v.reason l) (le-leb v.reason 11 h))
 
-  -- a call that answers it with none
-  pub no_trials : (v : Verdict) → 1 ≤ v.reason → v.reason ≤ 11 → counted v 0 ≡ with_trials d v
-  no_trials v l h = ap (counted v) (sym (untried v l h))
-
 -- ---- the trials of one stage
 
 module _ (d : Design) (t : ℕ) where
-  pub stage_answers : (v : Verdict) (n : ℕ) → v ≡ stage_judged d t → n ≡ stage_tries d t v.reason → counted v n ≡ stage_answer d t
-  unfolding stage_answer
-  stage_answers v n e q = ap₂ counted e (q ∙ ap (λ (w : Verdict). stage_tries d t w.reason) e)
-
   pub tries_most : (reason : ℕ) → stage_tries d t reason ≤ 2 ^ (d.m * d.s) + 2 ^ (d.m * d.s)
   tries_most reason = go (eqb reason 12 || eqb reason 13)
     where

@@ -14,7 +14,7 @@ use Rattle.finite.specs.Tests.{pick}
 use Rattle.finite.proofs.Testing.{pick_true, pick_false, pick_number}
 use Rattle.design.specs.Design.{Design, WellFormed, stage_of}
 use Rattle.design.specs.Reading.{Reading, refused, means, head_of, head_fault, meaning, reading}
-use Rattle.design.specs.declared.Head.{Head}
+use Rattle.design.specs.Limits.{Head}
 use Rattle.design.proofs.HeadAlone.{head_seven, fault_seven, head_range, refused_first, reads_head}
 use Rattle.design.proofs.Walking.{head_refused}
 use Rattle.design.proofs.Written.{read_means}

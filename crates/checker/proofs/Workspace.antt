@@ -1,14 +1,14 @@
--- The workspace: what a verdict leaves of it, bytes zeroed in front, bytes as they were, and `clear`.
+-- The workspace: what a verdict leaves of it, bytes zeroed in front, bytes as they were.
 -- Assumes nothing.
 use mathlib.Core.Path.{◌≡◌, refl, sym, ap, ◌∙◌}
 use mathlib.Core.Logic.{◌⊎◌, inl, inr}
 use mathlib.Core.List.{List, [], ◌∷◌, ◌++◌}
-use Prim.Native.Nat.{ℕ, suc, ◌+◌, ◌≤◌, ◌<◌}
+use Prim.Native.Nat.{ℕ, suc, ◌≤◌}
 use native.Mathlib.Omega.{arith}
-use lib.ListN.{length, set, drop, replicate, length-set, length-replicate}
+use lib.ListN.{length, take, drop, replicate, length-replicate}
+use Rattle.std.proofs.lemmas.List.{length-take-le}
 use lib.Seq.{drop_at}
 use lib.Dec.{leb}
-use borrow.Author.Fill.{fill_more}
 use borrow.Author.Tests.{le-leb, lt-leb}
 use Rattle.finite.specs.Faults.{first_fault}
 use Rattle.finite.proofs.Testing.{and_intro, and_false_right, pick_true, pick_false}
@@ -53,6 +53,10 @@ late_reasons d =
 zeroed_twice : (n : ℕ) (l : List ℕ) → zeroed n (zeroed n l) ≡ zeroed n l
 zeroed_twice n l = ap (λ (r : List ℕ). replicate n 0 ++ r) (drop_at (replicate n 0) (drop n l) n (length-replicate {A = ℕ} n 0))
 
+-- as the library's `fill` zeroes the front
+pub zeroed_filled : (n : ℕ) (l r : List ℕ) → n ≤ length l → r ≡ replicate (length (take n l)) 0 → r ++ drop n l ≡ zeroed n l
+zeroed_filled n l r h e = ap (λ (x : List ℕ). x ++ drop n l) (e ∙ ap (λ (k : ℕ). replicate k 0) (length-take-le n l h))
+
 pub stays_zeroed : (n k : ℕ) (l l₁ : List ℕ) → n ≡ k → l₁ ≡ zeroed n l → zeroed k l₁ ≡ l₁
 stays_zeroed n k l l₁ e q =
     let z : l₁ ≡ zeroed k l = q ∙ ap (λ (x : ℕ). zeroed x l) e in
@@ -84,18 +88,3 @@ module _ (l₀ l : List ℕ) (e : l ≡ l₀) where
 
   pub same_length_through : (l₁ : List ℕ) → l₁ ≡ l → length l₁ ≡ length l₀
   same_length_through l₁ q = ap length (q ∙ e)
-
--- ---- `clear`, for a turn and at its end: the first i bytes of l₀ are zeroed
-
-pub record ZeroedTo (l₀ l : List ℕ) (i : ℕ) : Type 0 where
-  pub long : length l ≡ length l₀
-  pub so : l ≡ zeroed i l₀
-
-pub zeroed_none : (l : List ℕ) → ZeroedTo l l 0
-zeroed_none l = record { long = refl; so = refl }
-
-pub zeroed_more : (l₀ l : List ℕ) (i n : ℕ) → ZeroedTo l₀ l i → i < n → n ≤ length l₀ → ZeroedTo l₀ (set l i 0) (i + 1)
-zeroed_more l₀ l i n z h k = record { long = simp length-set z.long; so = rw z.so (fill_more i 0 l₀ (omega arith)) }
-
-pub zeroed_all : (l₀ l : List ℕ) (i n : ℕ) → ZeroedTo l₀ l i → i ≤ n → n ≤ i → l ≡ zeroed n l₀
-zeroed_all l₀ l i n z up low = let e : i ≡ n = omega arith in rw e at z.so

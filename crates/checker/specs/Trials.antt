@@ -5,7 +5,7 @@ use Rattle.finite.specs.Tests.{pick, tried, total}
 use Rattle.finite.specs.Maps.{met_before}
 use Rattle.design.specs.Design.{Stage, Design, stage_of}
 use Rattle.design.specs.Reading.{head_of, head_fault, meaning}
-use Rattle.design.specs.declared.Head.{Head}
+use Rattle.design.specs.Limits.{Head}
 use Rattle.threshold.specs.Stages.{output, sums_right}
 use Rattle.checker.specs.Verdict.{workspace_for, verdict}
 use Rattle.checker.specs.declared.Verdict.{Verdict}

@@ -1,46 +1,35 @@
 // What a verdict can take, from the head record alone.
-ghost use Rattle.std.specs.Prelude.{◌≡◌, ◌*◌, ◌≤◌};
-ghost use Rattle.design.specs.Limits.{greatest_share_bits};
-ghost use Rattle.design.specs.Inside.Described.{Limits};
+ghost use Rattle.std.specs.Prelude.{◌≡◌};
 ghost use Rattle.checker.specs.Verdict.{workspace_for};
 ghost use Rattle.checker.specs.Trials.{most_trials, forecast};
+ghost use Rattle.checker.specs.Outcome.{forecast_of};
 
-use super::Forecast;
+use super::Needs;
 use design::Head;
+use finite::power;
+use reasons::Reason;
 
 // The bytes of workspace: one bit for each sharing.
-pub fn workspace_for(h: Head) -> usize
-    requires { h.m * h.s ≤ greatest_share_bits }
-    ensures { result ≡ workspace_for h.m h.s }
+pub fn workspace_for(head: Head) -> usize
+    ensures { result ≡ workspace_for head.m head.s }
 {
-    finite::power(h.m * h.s) / 8
+    power(head.share_bits()) / 8
 }
 
 // The most trials: two passes over all sharings in each stage.
-fn most_trials(h: Head) -> usize
-    requires { Limits h }
-    ensures { result ≡ most_trials h.m h.s h.k }
+fn most_trials(head: Head) -> usize
+    ensures { result ≡ most_trials head.m head.s head.k }
 {
-    2 * h.k * finite::power(h.m * h.s)
+    2 * head.k * power(head.share_bits())
 }
 
-// The forecast for a file, whatever follows its head record.
-pub fn foresee(file: &[u8]) -> Forecast
-    ensures { result ≡ forecast file.now }
+// What a verdict on a file can take, whatever follows its head record.
+pub fn foresee(file: &[u8]) -> Result<Needs, Reason>
+    ensures { forecast_of result ≡ forecast file.now }
 {
-    let first = design::read_head(file);
-    if first.reason != 0 {
-        return Forecast {
-            reason: first.reason,
-            workspace: 0,
-            trials: 0,
-        };
-    }
-    let workspace = workspace_for(first.head);
-    let trials = most_trials(first.head);
-    Forecast {
-        reason: 0,
-        workspace,
-        trials,
-    }
+    let head = design::read_head(file)?;
+    Ok(Needs {
+        workspace: workspace_for(head),
+        trials: most_trials(head),
+    })
 }

@@ -6,22 +6,72 @@ mod marks; // marks.rt: marks in a lent workspace
 mod stages; // stages.rt: one stage judged on all its sharings
 mod tables; // tables.rt: the chain of tables, and tables that repeat an entry
 
-ghost use Rattle.std.specs.Prelude.{◌≡◌, ◌≤◌, ◌<◌, length};
+ghost use Rattle.std.specs.Prelude.{◌≡◌, ◌+◌, ◌≤◌, ◌<◌, length};
 ghost use Rattle.design.specs.Reading.{meaning};
-ghost use Rattle.design.specs.Inside.Described.{Describes};
-ghost use Rattle.checker.specs.Verdict.{answer, first_repeating, judged, workspace_left, workspace_after};
-ghost use Rattle.checker.specs.Trials.{counted, judging};
-ghost use Rattle.checker.specs.Inside.Parts.{stages_judged, chain_judged, stage_answer, with_trials};
+ghost use Rattle.checker.specs.Verdict.{judged, verdict, workspace_left, workspace_after};
+ghost use Rattle.checker.specs.Trials.{both_passes, trials_of, trials as trials_on, judging};
+ghost use Rattle.checker.specs.Outcome.{refusal, verdict_of, judged_of};
+ghost use Rattle.checker.specs.Inside.Parts.{NoneRepeats, stage_judged, stages_judged, chain_judged, stage_tries, fault_of};
 ghost use Rattle.checker.specs.Inside.Marks.{Cleared};
 
-use design::Layout;
+use design::{DesignFile, ReadError};
 pub use forecasts::foresee;
 use forecasts::workspace_for;
 use marks::clear;
-use stages::{offending, try_correctness, try_uniformity};
+use reasons::Reason;
+use stages::{first_met, first_wrong, offending, tries};
+use std::error::Error;
+use std::fmt;
 use tables::{chain_is_box, first_repeating};
 
-// Reason, place and component, as the paper numbers them.
+/// Why a file is refused, and the place and the component that the reason names: 0 where it names none, as published.
+#[derive(Clone, Copy, Debug, PartialEq, Eq)]
+pub struct Refusal {
+    pub reason: Reason,
+    pub place: usize,
+    pub component: usize,
+}
+
+impl Refusal {
+    fn new(reason: Reason, place: usize, component: usize) -> Refusal
+        ensures { result ≡ refusal reason place component }
+    {
+        Refusal {
+            reason,
+            place,
+            component,
+        }
+    }
+}
+
+/// The reason in words.
+impl fmt::Display for Refusal {
+    fn fmt<W: fmt::Write>(&self, f: &mut fmt::Formatter<W>) -> fmt::Result {
+        self.reason.fmt(f)
+    }
+}
+
+impl Error for Refusal {}
+
+impl From<ReadError> for Refusal {
+    ghost use Rattle.std.specs.Prelude.{◌≡◌};
+    ghost use Rattle.checker.specs.Outcome.{refusal};
+
+    ghost from_gives = { λ error r. r ≡ refusal error.reason error.place 0 };
+
+    fn from(error: ReadError) -> Refusal {
+        Refusal::new(error.reason, error.place, 0)
+    }
+}
+
+/// What judging a file comes to, the number of stages where it is accepted, and how many trials it took.
+#[derive(Clone, Copy, Debug, PartialEq, Eq)]
+pub struct Judgement {
+    pub outcome: Result<usize, Refusal>,
+    pub trials: usize,
+}
+
+// Reason, place and component, as the paper numbers them, with reason 0 for what is accepted: for C, which has no Result.
 #[repr(C)]
 #[derive(Clone, Copy)]
 pub struct Verdict {
@@ -30,7 +80,7 @@ pub struct Verdict {
     pub component: usize,
 }
 
-// A verdict, and how many trials it took.
+// A verdict, and how many trials it took: for C, which has no Result.
 #[repr(C)]
 #[derive(Clone, Copy)]
 pub struct Judged {
@@ -38,7 +88,14 @@ pub struct Judged {
     pub trials: usize,
 }
 
-// What a verdict can take: bytes of workspace, and the most trials. Both are 0 where the head record is refused.
+/// What a verdict can take: bytes of workspace, and the most trials.
+#[derive(Clone, Copy, Debug, PartialEq, Eq)]
+pub struct Needs {
+    pub workspace: usize,
+    pub trials: usize,
+}
+
+// The needs, both 0 where the head record is refused, and the reason: for C, which has no Result.
 #[repr(C)]
 #[derive(Clone, Copy)]
 pub struct Forecast {
@@ -47,103 +104,173 @@ pub struct Forecast {
     pub trials: usize,
 }
 
-fn give(reason: usize, place: usize, component: usize, trials: usize) -> Judged
-    ensures { result ≡ counted (answer reason place component) trials }
-{
-    Judged {
-        verdict: Verdict {
-            reason,
-            place,
-            component,
-        },
-        trials,
+impl From<Result<usize, Refusal>> for Verdict {
+    ghost use Rattle.checker.specs.Outcome.{verdict_of};
+
+    ghost from_gives = { λ outcome v. v ≡ verdict_of outcome };
+
+    fn from(outcome: Result<usize, Refusal>) -> Verdict {
+        match outcome {
+            Ok(place) => Verdict {
+                reason: 0,
+                place,
+                component: 0,
+            },
+            Err(refusal) => Verdict {
+                reason: refusal.reason.number(),
+                place: refusal.place,
+                component: refusal.component,
+            },
+        }
     }
 }
 
-// What stage `t`, counted from 0, answers: 12, 13 or 14, and 0 where it has no fault. The marks are zero before and after.
-fn judge_stage(file: &[u8], layout: Layout, t: usize, workspace: &mut [u8]) -> Judged
-    requires { Describes file.now layout × (t < layout.head.k) × Cleared layout workspace.old × (layout.head.k ≤ first_repeating (meaning file.now)) }
-    ensures value { result ≡ stage_answer (meaning file.now) t }
+/// Reason, place and component in numbers.
+impl fmt::Display for Verdict {
+    fn fmt<W: fmt::Write>(&self, f: &mut fmt::Formatter<W>) -> fmt::Result {
+        write!(f, "{} {} {}", self.reason, self.place, self.component)
+    }
+}
+
+impl From<Judgement> for Judged {
+    ghost use Rattle.checker.specs.Outcome.{judged_of};
+
+    ghost from_gives = { λ judgement v. v ≡ judged_of judgement };
+
+    fn from(judgement: Judgement) -> Judged {
+        Judged {
+            verdict: Verdict::from(judgement.outcome),
+            trials: judgement.trials,
+        }
+    }
+}
+
+impl From<Result<Needs, Reason>> for Forecast {
+    ghost use Rattle.checker.specs.Outcome.{forecast_of};
+
+    ghost from_gives = { λ needs v. v ≡ forecast_of needs };
+
+    fn from(needs: Result<Needs, Reason>) -> Forecast {
+        match needs {
+            Ok(needs) => Forecast {
+                reason: 0,
+                workspace: needs.workspace,
+                trials: needs.trials,
+            },
+            Err(reason) => Forecast {
+                reason: reason.number(),
+                workspace: 0,
+                trials: 0,
+            },
+        }
+    }
+}
+
+// The fault of stage `t`, counted from 0, if it has one: 12, 13 or 14. The marks are zero before and after. From here up the workspace and the count of trials
+// are lent beside the design: a struct of them is no plainer, as each contract says of each by itself what it is afterwards.
+fn judge_stage(
+    design: &DesignFile<'_>,
+    t: usize,
+    workspace: &mut [u8],
+    trials: &mut usize,
+) -> Result<(), Refusal>
+    requires { (t < design.now.head.k) × Cleared design.now.head.m design.now.head.s workspace.old × NoneRepeats (meaning design.now.file.now) × (trials.old ≡ both_passes (meaning design.now.file.now) t) }
+    ensures value { fault_of result ≡ stage_judged (meaning design.now.file.now) t }
+    ensures trials { trials.new ≡ both_passes (meaning design.now.file.now) t + stage_tries (meaning design.now.file.now) t (stage_judged (meaning design.now.file.now) t).reason }
     ensures workspace_unchanged { workspace.new ≡ workspace.old }
 {
-    let correctness = try_correctness(file, layout, t);
-    if correctness.stopped {
-        return give(12, t + 1, 0, correctness.tries);
+    let wrong = first_wrong(design, t);
+    *trials += tries(design.head, wrong);
+    if wrong.is_some() {
+        return Err(Refusal::new(Reason::NotCorrect, t + 1, 0));
     }
-    let j = offending(file, layout, t);
-    if j < layout.head.s {
-        return give(13, t + 1, j + 1, correctness.tries);
+    if let Some(j) = offending(design, t) {
+        return Err(Refusal::new(Reason::NotNonComplete, t + 1, j + 1));
     }
-    let uniformity = try_uniformity(file, layout, t, workspace);
-    let tries = correctness.tries + uniformity.tries;
-    if uniformity.stopped {
-        return give(14, t + 1, 0, tries);
+    let met = first_met(design, t, workspace);
+    *trials += tries(design.head, met);
+    if met.is_some() {
+        return Err(Refusal::new(Reason::NotUniform, t + 1, 0));
     }
-    give(0, 0, 0, tries)
+    Ok(())
 }
 
 // The stages, each judged.
-fn judge_stages(file: &[u8], layout: Layout, workspace: &mut [u8]) -> Judged
-    requires { Describes file.now layout × Cleared layout workspace.old × (layout.head.k ≤ first_repeating (meaning file.now)) }
-    ensures value { result ≡ with_trials (meaning file.now) (stages_judged (meaning file.now)) }
+fn judge_stages(
+    design: &DesignFile<'_>,
+    workspace: &mut [u8],
+    trials: &mut usize,
+) -> Result<usize, Refusal>
+    requires { Cleared design.now.head.m design.now.head.s workspace.old × NoneRepeats (meaning design.now.file.now) × (trials.old ≡ 0) }
+    ensures value { verdict_of result ≡ stages_judged (meaning design.now.file.now) }
+    ensures trials { trials.new ≡ trials_of (meaning design.now.file.now) (stages_judged (meaning design.now.file.now)) }
     ensures workspace_unchanged { workspace.new ≡ workspace.old }
 {
-    let k = layout.head.k;
-    let mut t: usize = 0;
-    let mut trials: usize = 0;
-    while t < k {
-        let stage = judge_stage(file, layout, t, workspace);
-        trials = trials + stage.trials;
-        let verdict = stage.verdict;
-        if verdict.reason != 0 {
-            return Judged { verdict, trials };
-        }
-        t += 1;
+    let k = design.head.k;
+    for t in 0..k {
+        judge_stage(design, t, workspace, trials)?;
     }
-    give(0, k, 0, trials)
+    Ok(k)
 }
 
-// The chain of tables, the tables and the stages: 10 and above, or 0. The marks are zero before and after.
-fn judge_chain(file: &[u8], layout: Layout, workspace: &mut [u8]) -> Judged
-    requires { Describes file.now layout × Cleared layout workspace.old }
-    ensures value { result ≡ with_trials (meaning file.now) (chain_judged (meaning file.now)) }
+// The chain of tables, the tables and the stages: 10 and above. The marks are zero before and after.
+fn judge_chain(
+    design: &DesignFile<'_>,
+    workspace: &mut [u8],
+    trials: &mut usize,
+) -> Result<usize, Refusal>
+    requires { Cleared design.now.head.m design.now.head.s workspace.old × (trials.old ≡ 0) }
+    ensures value { verdict_of result ≡ chain_judged (meaning design.now.file.now) }
+    ensures trials { trials.new ≡ trials_of (meaning design.now.file.now) (chain_judged (meaning design.now.file.now)) }
     ensures workspace_unchanged { workspace.new ≡ workspace.old }
 {
-    if !chain_is_box(file, layout) {
-        return give(10, 0, 0, 0);
+    if !chain_is_box(design) {
+        return Err(Refusal::new(Reason::ChainIsNotBox, 0, 0));
     }
-    let t = first_repeating(file, layout);
-    if t < layout.head.k {
-        return give(11, t + 1, 0, 0);
+    if let Some(t) = first_repeating(design) {
+        return Err(Refusal::new(Reason::StageRepeats, t + 1, 0));
     }
-    judge_stages(file, layout, workspace)
+    judge_stages(design, workspace, trials)
 }
 
-// The design of a file that reads: 8 and above, or 0.
-fn judge_design(file: &[u8], layout: Layout, workspace: &mut [u8]) -> Judged
-    requires { Describes file.now layout }
-    ensures value { result ≡ with_trials (meaning file.now) (judged (meaning file.now) (length workspace.old)) }
-    ensures workspace_after { workspace.new ≡ workspace_left (meaning file.now) (judged (meaning file.now) (length workspace.old)).reason workspace.old }
+// The design of a file that reads: 8 and above.
+fn judge_design(
+    design: &DesignFile<'_>,
+    workspace: &mut [u8],
+    trials: &mut usize,
+) -> Result<usize, Refusal>
+    requires { trials.old ≡ 0 }
+    ensures value { verdict_of result ≡ judged (meaning design.now.file.now) (length workspace.old) }
+    ensures trials { trials.new ≡ trials_of (meaning design.now.file.now) (judged (meaning design.now.file.now) (length workspace.old)) }
+    ensures workspace_after { workspace.new ≡ workspace_left (meaning design.now.file.now) (judged (meaning design.now.file.now) (length workspace.old)).reason workspace.old }
 {
-    if anf::repeats(design::box_table(file, layout)) {
-        return give(8, 0, 0, 0);
+    if anf::repeats(design.box_table()) {
+        return Err(Refusal::new(Reason::BoxRepeats, 0, 0));
     }
-    let n = workspace_for(layout.head);
+    let n = workspace_for(design.head);
     if workspace.len() < n {
-        return give(9, 0, 0, 0);
+        return Err(Refusal::new(Reason::WorkspaceTooSmall, 0, 0));
     }
     clear(workspace, n);
-    judge_chain(file, layout, workspace)
+    judge_chain(design, workspace, trials)
 }
 
-// The verdict on a file, with a lent workspace, and its trials.
-pub fn judge(file: &[u8], workspace: &mut [u8]) -> Judged
-    ensures value { result ≡ judging file.now (length workspace.old) }
+// The verdict on a file, its trials counted from 0.
+fn judge_file(file: &[u8], workspace: &mut [u8], trials: &mut usize) -> Result<usize, Refusal>
+    requires { trials.old ≡ 0 }
+    ensures value { verdict_of result ≡ verdict file.now (length workspace.old) }
+    ensures trials { trials.new ≡ trials_on file.now (length workspace.old) }
     ensures workspace_after { workspace.new ≡ workspace_after file.now workspace.old }
 {
-    let layout = design::read(file);
-    if layout.reason != 0 {
-        return give(layout.reason, layout.place, 0, 0);
-    }
-    judge_design(file, layout, workspace)
+    judge_design(&design::read(file)?, workspace, trials)
+}
+
+/// The verdict on a file, with a lent workspace, and its trials.
+pub fn judge(file: &[u8], workspace: &mut [u8]) -> Judgement
+    ensures value { judged_of result ≡ judging file.now (length workspace.old) }
+    ensures workspace_after { workspace.new ≡ workspace_after file.now workspace.old }
+{
+    let mut trials = 0;
+    let outcome = judge_file(file, workspace, &mut trials);
+    Judgement { outcome, trials }
 }

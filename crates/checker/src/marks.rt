@@ -3,19 +3,15 @@ ghost use Rattle.std.specs.Prelude.{◌≡◌, ◌/◌, ◌≤◌, ◌<◌, leng
 ghost use Rattle.checker.specs.Verdict.{zeroed};
 ghost use Rattle.checker.specs.Inside.Marks.{marked, mark};
 
-// Zeroes the first `n` bytes.
+// Zeroes the first `n` bytes: a function for the definition by which the papers say it.
 pub fn clear(marks: &mut [u8], n: usize)
     requires { n ≤ length marks.old }
     ensures { marks.new ≡ zeroed n marks.old }
 {
-    let mut i: usize = 0;
-    while i < n {
-        marks[i] = 0;
-        i += 1;
-    }
+    marks[..n].fill(0);
 }
 
-// Marks `y`, and answers whether it was marked before.
+// Marks `y` in the lent bytes, which a struct round them would not make plainer, since it would hold nothing else, and answers whether it was marked before.
 pub fn mark_one(marks: &mut [u8], y: usize) -> bool
     requires { y / 8 < length marks.old }
     ensures { (result ≡ marked marks.old y) × (marks.new ≡ mark marks.old y) }

@@ -11,8 +11,8 @@ use Rattle.design.specs.Design.{Design, WellFormed}
 use Rattle.design.specs.Reading.{Reading, reason_of, place_of, refused, means, reading, meaning, head_of, place, last_of}
 use Rattle.design.specs.Layout.{no_starts, refused_layout, read_layout, layout_of_reading, layout_of, starts_to, start_of}
 use Rattle.design.specs.Inside.Described.{Describes}
-use Rattle.design.specs.declared.Head.{Head}
-use Rattle.design.specs.declared.Layout.{Layout}
+use Rattle.design.specs.Limits.{Head}
+use Rattle.design.specs.Layout.{Layout}
 use Rattle.design.proofs.Limits.{Bounds}
 use Rattle.design.proofs.Found.{limited}
 use Rattle.design.proofs.Formed.{formed}

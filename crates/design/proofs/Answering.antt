@@ -7,24 +7,33 @@ use mathlib.Core.List.{List}
 use mathlib.Core.Bool.{Bool, true, false}
 use native.Mathlib.Omega.{arith}
 use borrow.Author.Tests.{eq-eqb, ne_eqb}
-use lib.ListN.{length, set, length-set}
+use lib.ListN.{length, set, get_or, take, drop, length-set}
 use mir.Syntax.{w64}
 use mir.Val.{Fits}
 use Rattle.finite.specs.Tests.{pick, tabulate}
 use Rattle.finite.proofs.Testing.{pick_true, pick_false, pick_number, tabulate_more}
 use Rattle.records.specs.Bytes.{byte, u16_at}
 use Rattle.design.specs.Layout.{refused_head, head_read, no_starts, start_of, starts_to, refused_layout, layout_of}
-use Rattle.design.specs.Inside.Described.{Limits}
+use Rattle.design.specs.Inside.Described.{Describes}
 use Rattle.design.specs.Limits.{greatest_records, broken, checked}
 use Rattle.design.specs.Reading.{last_of, fault_at, head_fault, refused, means, reading, walk, place, head_of, meaning}
 use Rattle.design.specs.Inside.Framing.{frame_fault}
-use Rattle.design.specs.declared.Head.{Head}
-use Rattle.design.specs.declared.HeadRead.{HeadRead}
-use Rattle.design.specs.declared.Layout.{Layout}
-use Rattle.design.specs.declared.Checked.{Checked}
-use Rattle.design.specs.declared.Checked.TheVariants.{Good, Beyond}
+use Rattle.design.specs.Limits.{Head}
+use Rattle.design.specs.Heads.{numbers, head_outcome, head_reading}
+use Rattle.design.specs.declared.heads.Head as heads
+use Rattle.records.specs.Kinds.{code}
+use Rattle.records.specs.declared.kind.Kind.TheVariants as kinds
+use Rattle.reasons.specs.Numbers.{number}
+use Rattle.reasons.proofs.Numbers.{number_some}
+use Rattle.design.proofs.Bodies.{length_in, byte_in}
+use Rattle.design.specs.Layout.{HeadRead}
+use Rattle.design.specs.Layout.{Layout}
+use Rattle.std.specs.Prelude.{Result, Ok, Err}
+use Rattle.reasons.specs.declared.Reason.{Reason}
+use Rattle.reasons.specs.declared.Reason.TheVariants.{LimitBroken}
+use Rattle.design.proofs.Answered.{answers_described}
 use Rattle.design.proofs.Records.{fault_framed}
-use Rattle.design.proofs.Walking.{walk_next, walk_stop, walk_over, walk_done, place_next, head_size, head_frame, head_body, head_within, head_refused, head_next}
+use Rattle.design.proofs.Walking.{walk_next, walk_stop, walk_over, walk_done, place_next, head_size, head_frame, head_body, head_refused, head_next}
 
 -- a refusal
 answers_refused : (f : List ℕ) (l : Layout) (r p : ℕ) → reading f ≡ refused r p → l ≡ refused_layout r p → l ≡ layout_of f
@@ -74,15 +83,15 @@ walked_first f h starts e q m k z l s =
 
 module _ (f : List ℕ) (h : Head) (n : ℕ) (starts : List ℕ) (i at : ℕ) (w : Walked f h n starts i at) where
   -- a record is tested: r is its fault, b the length of its body
-  module _ (l : i < n) (r : ℕ) (er : r ≡ fault_at f h i at) where
-    pub walk_stopped : (y : Layout) → y ≡ refused_layout r at → (r ≡ 0 → ⊥) → y ≡ layout_of f
-    walk_stopped y a e =
-        let d : fault_at f h i at ≡ 0 → ⊥ = λ z. e (er ∙ z) in
-        answers_refused f y _ _ (w.rest ∙ walk_stop f h n i at l d) (a ∙ ap (λ (x : ℕ). refused_layout x at) er)
+  module _ (l : i < n) where
+    pub walk_stopped : (r : Reason) → number r ≡ fault_at f h i at → refused_layout (number r) at ≡ layout_of f
+    walk_stopped r er =
+        let d : fault_at f h i at ≡ 0 → ⊥ = λ z. number_some r (er ∙ z) in
+        answers_refused f _ _ _ (w.rest ∙ walk_stop f h n i at l d) (ap (λ (x : ℕ). refused_layout x at) er)
 
-    pub walked_more : r ≡ 0 → (b : ℕ) → b ≡ u16_at f at → Walked f h n (set starts i (at + 4)) (i + 1) (at + 4 + b)
+    pub walked_more : 0 ≡ fault_at f h i at → (b : ℕ) → b ≡ u16_at f at → Walked f h n (set starts i (at + 4)) (i + 1) (at + 4 + b)
     walked_more z b eb =
-        let e : fault_at f h i at ≡ 0 = sym er ∙ z in
+        let e : fault_at f h i at ≡ 0 = sym z in
         let t = fault_framed f h i at e in
         rw eb
         (record {
@@ -100,8 +109,8 @@ module _ (f : List ℕ) (h : Head) (n : ℕ) (starts : List ℕ) (i at : ℕ) (w
 
   -- all records are passed
   module _ (l : n ≤ i) where
-    pub bytes_follow : at < length f → (y : Layout) → y ≡ refused_layout 7 at → y ≡ layout_of f
-    bytes_follow t y a = answers_refused f y 7 at (w.rest ∙ walk_over f h n i at l t) a
+    pub bytes_follow : at < length f → refused_layout 7 at ≡ layout_of f
+    bytes_follow t = answers_refused f _ 7 at (w.rest ∙ walk_over f h n i at l t) refl
 
     pub walk_reads : length f ≤ at → record { reason = 0; place = 0; head = h; starts = starts } ≡ layout_of f
     unfolding layout_of
@@ -110,54 +119,71 @@ module _ (f : List ℕ) (h : Head) (n : ℕ) (starts : List ℕ) (i at : ℕ) (w
         let q : i ≡ last_of (head_of f) + 1 = omega (arith, w.count, w.to, ap last_of w.head) in
         rw (e, w.head, w.passed, q) refl
 
-module _ (f : List ℕ) (h : Head) (i at r : ℕ) (er : r ≡ fault_at f h i at) (z : r ≡ 0) where
-  pub length_there : at + 2 ≤ length f
-  length_there = omega (arith, (fault_framed f h i at (sym er ∙ z)).rest)
+    pub walk_describes : length f ≤ at → Describes f (record { reason = 0; place = 0; head = h; starts = starts })
+    walk_describes t = answers_described f _ (walk_reads t) refl
 
+module _ (f : List ℕ) (h : Head) (i at : ℕ) (z : 0 ≡ fault_at f h i at) where
   pub start_fits : length f < 2 ^ 64 → Fits w64 (at + 4)
-  start_fits l = record { fits = omega (arith, (fault_framed f h i at (sym er ∙ z)).rest) }
+  start_fits l = record { fits = omega (arith, (fault_framed f h i at (sym z)).rest) }
 
   pub next_fits : (b : ℕ) → b ≡ u16_at f at → length f < 2 ^ 64 → Fits w64 (at + 4 + b)
-  next_fits b e l = record { fits = omega (arith, (fault_framed f h i at (sym er ∙ z)).rest) }
+  next_fits b e l = record { fits = omega (arith, (fault_framed f h i at (sym z)).rest) }
 
--- ---- `read_head`: r is the fault of the head's frame, v the constructor's answer for its numbers m, s, k
+-- ---- `read_head`: the frame has no fault, b is the body, h the answer of the head's constructor for its three bytes
 
 module _ (f : List ℕ) where
   refused_head_lem : (r : ℕ) → head_fault f ≡ r → (r ≡ 0 → ⊥) → refused_head r ≡ head_read f
   unfolding head_read
   refused_head_lem r e n = sym (pick_false _ _ _ (ne_eqb (head_fault f) 0 (λ z. n (sym e ∙ z))) ∙ ap refused_head e)
 
-  module _ (r : ℕ) (er : r ≡ frame_fault f 0 1 3) where
-    pub head_cut : (r ≡ 0 → ⊥) → (y : HeadRead) → y ≡ refused_head r → y ≡ head_read f
-    head_cut n y a = a ∙ refused_head_lem r (head_frame f (λ z. n (er ∙ z)) ∙ sym er) n
+  pub head_cut : (r : Reason) → number r ≡ frame_fault f 0 (code kinds.Head) 3 → refused_head (number r) ≡ head_read f
+  head_cut r e = refused_head_lem (number r) (head_frame f (λ z. number_some r (e ∙ z)) ∙ sym e) (number_some r)
 
-    module _ (z : r ≡ 0) where
-      pub head_there : (x : ℕ) → x < 7 → x < length f
-      head_there x l = omega (arith, (head_size f (sym er ∙ z)).1)
+  module _ (z : 0 ≡ frame_fault f 0 (code kinds.Head) 3) (b : List ℕ) (eb : b ≡ take (u16_at f 0) (drop (0 + 4) f)) where
+    three : (u16_at f 0 ≡ 3) × (7 ≤ length f)
+    three = head_size f (sym z)
 
-      body : head_fault f ≡ pick (broken (byte f 4) (byte f 5) (byte f 6)) 4 0
-      body = head_body f (sym er ∙ z)
+    head_length : length b ≡ 3
+    head_length = length_in f b 4 3 (eb ∙ ap (λ (x : ℕ). take x (drop 4 f)) three.0) three.1
 
-      module _ (v : Checked) (m s k : ℕ) (ev : v ≡ checked m s k) (p : m ≡ byte f 4) (q : s ≡ byte f 5) (t : k ≡ byte f 6) where
-        is_good : (h : Head) (b : Bool) → pick b Beyond (Good (head_of f)) ≡ Good h → (h ≡ head_of f) × (b ≡ false)
-        is_good h true g = let w : ◌≡◌ {A = ℕ} 0 1 = cc in absurd (omega arith)
-        is_good h false g = (cc, refl)
+    pub head_there : (x : ℕ) → x < 3 → x < length b
+    head_there x l = omega (arith, head_length)
 
-        pub head_good : (h : Head) → v ≡ Good h → record { reason = 0; head = h } ≡ head_read f
-        unfolding head_read
-        head_good h g =
-            let w = is_good h _ (rw (p, q, t) at (sym ev ∙ g)) in
-            let e : head_fault f ≡ 0 = body ∙ pick_false (broken (byte f 4) (byte f 5) (byte f 6)) 4 0 w.1 in
-            sym (pick_true _ _ _ (eq-eqb (head_fault f) 0 e) ∙ ap (λ (x : Head). record { reason = 0; head = x }) (sym w.0))
+    byte_of : (i : ℕ) → i < 3 → get_or b i 0 ≡ byte f (4 + i)
+    byte_of = byte_in f b 4 3 (eb ∙ ap (λ (x : ℕ). take x (drop 4 f)) three.0)
 
-        is_beyond : (b : Bool) → pick b Beyond (Good (head_of f)) ≡ Beyond → b ≡ true
-        is_beyond true g = refl
-        is_beyond false g = let w : ◌≡◌ {A = ℕ} 0 1 = cc in absurd (omega arith)
+    fault_is : head_fault f ≡ pick (broken (byte f 4) (byte f 5) (byte f 6)) 4 0
+    fault_is = head_body f (sym z)
 
-        pub head_beyond : v ≡ Beyond → (y : HeadRead) → y ≡ refused_head 4 → y ≡ head_read f
-        head_beyond g y a = a ∙ refused_head_lem 4 (body ∙ pick_true (broken (byte f 4) (byte f 5) (byte f 6)) 4 0 (is_beyond _ (rw (p, q, t) at (sym ev ∙ g)))) (λ e. omega arith)
+    module _ (m s k : ℕ) (p : m ≡ get_or b 0 0) (q : s ≡ get_or b 1 0) (t : k ≡ get_or b 2 0) where
+      m_is : m ≡ byte f 4
+      m_is = p ∙ byte_of 0 (omega arith)
 
--- ---- x is what `read_head` answers of the file f
+      s_is : s ≡ byte f 5
+      s_is = q ∙ byte_of 1 (omega arith)
+
+      k_is : k ≡ byte f 6
+      k_is = t ∙ byte_of 2 (omega arith)
+
+      is_good : (h : Head) (c : Bool) → pick c (Err LimitBroken) (Ok (head_of f)) ≡ Ok h → (h ≡ head_of f) × (c ≡ false)
+      is_good h true g = let w : ◌≡◌ {A = ℕ} 0 1 = cc in absurd (omega arith)
+      is_good h false g = (cc, refl)
+
+      is_beyond : (r : Reason) (c : Bool) → pick c (Err LimitBroken) (Ok (head_of f)) ≡ Err r → (r ≡ LimitBroken) × (c ≡ true)
+      is_beyond r true g = (cc, refl)
+      is_beyond r false g = let w : ◌≡◌ {A = ℕ} 0 1 = cc in absurd (omega arith)
+
+      pub head_answered : (y : Result heads.Head Reason) → head_outcome y ≡ checked m s k → head_reading y ≡ head_read f
+      unfolding head_read
+      head_answered (Ok h) e =
+          let w = is_good (numbers h) _ (sym (rw (m_is, s_is, k_is) at e)) in
+          let n : head_fault f ≡ 0 = fault_is ∙ pick_false (broken (byte f 4) (byte f 5) (byte f 6)) 4 0 w.1 in
+          sym (pick_true _ _ _ (eq-eqb (head_fault f) 0 n) ∙ ap (λ (x : Head). record { reason = 0; head = x }) (sym w.0))
+      head_answered (Err r) e =
+          let w = is_beyond r _ (sym (rw (m_is, s_is, k_is) at e)) in
+          rw w.0 (refused_head_lem 4 (fault_is ∙ pick_true (broken (byte f 4) (byte f 5) (byte f 6)) 4 0 w.1) (λ n. omega (arith, n)))
+
+-- ---- x is what reading the head record alone answers of the file f
 
 module _ (f : List ℕ) (x : HeadRead) (ex : x ≡ head_read f) where
   pub head_reason : x.reason ≡ head_fault f
@@ -175,10 +201,16 @@ module _ (f : List ℕ) (x : HeadRead) (ex : x ≡ head_read f) where
     pub head_faultless : fault_at f x.head 0 0 ≡ 0
     head_faultless = rw head_read_lem none
 
-    pub head_limits : Limits x.head
-    head_limits = rw head_read_lem (head_within f none)
+-- ---- `read`: the head record is read, or refused with the reason r
 
-  -- `read`
-  pub read_refused : (x.reason ≡ 0 → ⊥) → (y : Layout) → y ≡ refused_layout x.reason 0 → y ≡ layout_of f
-  read_refused n y a =
-      answers_refused f y (head_fault f) 0 (head_refused f (λ z. n (head_reason ∙ z))) (a ∙ ap (λ (r : ℕ). refused_layout r 0) head_reason)
+module _ (f : List ℕ) where
+  pub head_found : (h : Head) → record { reason = 0; head = h } ≡ head_read f → h ≡ head_of f
+  head_found h e = head_read_lem f (record { reason = 0; head = h }) e refl
+
+  pub head_sound : (h : Head) → record { reason = 0; head = h } ≡ head_read f → fault_at f h 0 0 ≡ 0
+  head_sound h e = head_faultless f (record { reason = 0; head = h }) e refl
+
+  pub read_refused : (r : Reason) → refused_head (number r) ≡ head_read f → refused_layout (number r) 0 ≡ layout_of f
+  read_refused r e =
+      let w : number r ≡ head_fault f = head_reason f (refused_head (number r)) e in
+      answers_refused f _ (head_fault f) 0 (head_refused f (λ z. number_some r (w ∙ z))) (ap (λ (x : ℕ). refused_layout x 0) w)

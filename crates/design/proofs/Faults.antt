@@ -1,161 +1,209 @@
--- The ways out of the tests of one record over plain values: `length_fits`, `framed`, `entries_fit`, `rises`, `terms_fit` and `fault`. A premise is a test as
+-- The ways out of the tests of one record over plain values: `length_fits`, `framed`, `entries_fit`, `terms_fit` and `fault`. A premise is a test as
 -- the code has it, or what a call's contract says of its result.
 -- Assumes nothing.
-use Prim.Native.Nat.{ℕ, ◌+◌, ◌*◌, ◌-◌, ◌/◌, ◌%◌, ◌^◌, ◌≤◌, ◌<◌}
+use Prim.Native.Nat.{ℕ, zero, suc, ◌+◌, ◌*◌, ◌-◌, ◌/◌, ◌%◌, ◌^◌, ◌≤◌, ◌<◌}
 use mathlib.Core.Path.{◌≡◌, refl, sym, ap, ◌∙◌}
 use mathlib.Core.List.{List, ◌∷◌, []}
 use mathlib.Core.Bool.{Bool, true, false, not, ◌||◌}
+use mathlib.Core.Logic.{◌⊎◌, inl, inr}
+use native.Mathlib.Numerals.{towards_suc}
 use native.Mathlib.Omega.{arith}
 use borrow.Author.Tests.{lt-ltb, le-ltb, eq-eqb, ne_eqb, not-true, not-false}
-use lib.ListN.{length, get_or}
+use lib.ListN.{length, get_or, take, drop, length-drop}
 use lib.Dec.{leb, eqb, ltb}
+use Rattle.std.specs.Prelude.{Option, None, Some}
+use Rattle.std.specs.Option.{option_map_or}
 use Rattle.finite.specs.Tests.{all}
 use Rattle.finite.specs.Faults.{first_fault}
 use Rattle.finite.proofs.Testing.{all_fails, all_more}
 use Rattle.finite.proofs.Faults.{fault_here, fault_past, fault_none}
 use Rattle.anf.specs.Terms.{before}
 use Rattle.records.specs.Bytes.{u16_at, u32_at}
+use Rattle.records.specs.Inside.Terms.{terms as term_list}
+use Rattle.records.proofs.TermBytes.{terms_cons, count_is}
 use Rattle.design.specs.Reading.{kind_due, size_due, length_due, entry_fits, previous, term_fits, fault_at}
 use Rattle.design.specs.Inside.Framing.{frame_fault}
-use Rattle.design.specs.declared.Head.{Head}
-use Rattle.design.proofs.Records.{framed, entry_high, entry_fits_lem, term_falls, term_high, term_fits_lem, previous_more, fault_frame, fault_body, fault_table, fault_list, body_4, kind_later}
+use Rattle.design.specs.Limits.{Head}
+use Rattle.reasons.specs.Numbers.{number}
+use Rattle.reasons.specs.declared.Reason.{Reason}
+use Rattle.reasons.proofs.Numbers.{number_some}
+use Rattle.anf.specs.Tables.{entries_below}
+use Rattle.records.specs.Kinds.{code}
+use Rattle.records.specs.declared.kind.Kind.{Kind}
+use Rattle.records.specs.declared.kind.Kind.TheVariants as kinds
+use Rattle.design.proofs.Bodies.{length_in, entries_in, terms_in}
+use Rattle.design.proofs.Records.{framed, term_falls, term_high, term_fits_lem, fault_frame, fault_body, fault_table, fault_list, body_4, kind_later}
+
+list_code : (kind : Kind) → code kind ≡ 3 → kind ≡ kinds.List
+list_code kinds.Head e = absurd (omega (arith, e))
+list_code kinds.Table e = absurd (omega (arith, e))
+list_code kinds.List e = refl
+list_code kinds.End e = absurd (omega (arith, e))
+
+-- the head and the end are neither a table nor a list
+outer : {kind : Kind} (x : ℕ) → 2 ≤ x → x ≤ 3 → (kind ≡ kinds.Head) ⊎ (kind ≡ kinds.End) → code kind ≡ x → ⊥
+outer x a b (inl q) e = let w : 1 ≡ x = rw q at e in omega arith
+outer x a b (inr q) e = let w : 4 ≡ x = rw q at e in omega arith
 
 -- ---- `length_fits`
 
-module _ (kind size n : ℕ) where
-  pub list_length : kind ≡ 3 → n % 4 ≡ 0 → leb n size ≡ length_due kind size n
+module _ (kind : Kind) (size n : ℕ) where
+  pub list_length : kind ≡ kinds.List → n % 4 ≡ 0 → leb n size ≡ length_due (code kind) size n
   unfolding length_due
-  list_length e q = simp (eq-eqb _ _ e, eq-eqb _ _ q)
+  list_length e q = rw e (simp (eq-eqb _ _ q))
 
-  pub part_of_term : kind ≡ 3 → (n % 4 ≡ 0 → ⊥) → false ≡ length_due kind size n
+  pub part_of_term : kind ≡ kinds.List → (n % 4 ≡ 0 → ⊥) → eqb (n % 4) 0 ≡ length_due (code kind) size n
   unfolding length_due
-  part_of_term e q = simp (eq-eqb _ _ e, ne_eqb _ _ q)
+  part_of_term e q = rw e (simp (ne_eqb _ _ q))
 
-  pub other_length : (kind ≡ 3 → ⊥) → eqb n size ≡ length_due kind size n
+  pub other_length : (kind ≡ kinds.List → ⊥) → eqb n size ≡ length_due (code kind) size n
   unfolding length_due
-  other_length e = simp (ne_eqb _ _ e)
+  other_length e = simp (ne_eqb _ _ (λ q. e (list_code kind q)))
 
--- ---- `framed`: k is the record's kind, n its length, b whether that may be
+-- ---- `framed`: k is the record's kind, t the one due, n its length, b whether that may be
 
 module _ (f : List ℕ) (at kind size : ℕ) where
   pub head_short : length f - at < 4 → 1 ≡ frame_fault f at kind size
   unfolding frame_fault
   head_short h = sym (fault_here _ 1 _ 0 (lt-ltb _ _ h))
 
-  module _ (a : 4 ≤ length f - at) (k : ℕ) (ek : k ≡ u16_at f (at + 2)) where
-    pub other_kind : (k ≡ kind → ⊥) → 2 ≡ frame_fault f at kind size
+  module _ (a : 4 ≤ length f - at) (k : ℕ) (ek : k ≡ u16_at f (at + 2)) (t : ℕ) (et : t ≡ kind) where
+    pub other_kind : (k ≡ t → ⊥) → 2 ≡ frame_fault f at kind size
     unfolding frame_fault
-    other_kind h = sym (fault_past _ 1 _ 0 (le-ltb _ _ a) ∙ fault_here _ 2 _ 0 (ap not (ne_eqb _ _ (λ e. h (ek ∙ e)))))
+    other_kind h = sym (fault_past _ 1 _ 0 (le-ltb _ _ a) ∙ fault_here _ 2 _ 0 (ap not (ne_eqb _ _ (λ e. h (ek ∙ e ∙ sym et)))))
 
-    module _ (q : k ≡ kind) (n : ℕ) (en : n ≡ u16_at f at) (b : Bool) (eb : b ≡ length_due kind size n) where
+    module _ (q : k ≡ t) (n : ℕ) (en : n ≡ u16_at f at) (b : Bool) (eb : b ≡ length_due kind size n) where
       past_kind : frame_fault f at kind size ≡ first_fault ((not (length_due kind size (u16_at f at)), 3) ∷ (ltb (length f - at - 4) (u16_at f at), 1) ∷ []) 0
       unfolding frame_fault
-      past_kind = fault_past _ 1 _ 0 (le-ltb _ _ a) ∙ fault_past _ 2 _ 0 (ap not (eq-eqb _ _ (sym ek ∙ q)))
+      past_kind = fault_past _ 1 _ 0 (le-ltb _ _ a) ∙ fault_past _ 2 _ 0 (ap not (eq-eqb _ _ (sym ek ∙ q ∙ et)))
 
       due : length_due kind size (u16_at f at) ≡ b
       due = sym (ap (length_due kind size) en) ∙ sym eb
 
-      pub body_short : b ≡ true → length f - at - 4 < n → 1 ≡ frame_fault f at kind size
-      body_short t h = sym (past_kind ∙ fault_past _ 3 _ 0 (ap not (due ∙ t)) ∙ fault_here _ 1 _ 0 (lt-ltb _ _ (rw en at h)))
+      pub body_short : not b ≡ false → length f - at - 4 < n → 1 ≡ frame_fault f at kind size
+      body_short t h = sym (past_kind ∙ fault_past _ 3 _ 0 (ap not (due ∙ not-false b t)) ∙ fault_here _ 1 _ 0 (lt-ltb _ _ (rw en at h)))
 
-      pub frame_good : b ≡ true → n ≤ length f - at - 4 → 0 ≡ frame_fault f at kind size
-      frame_good t h = sym (past_kind ∙ fault_past _ 3 _ 0 (ap not (due ∙ t)) ∙ fault_past _ 1 _ 0 (le-ltb _ _ (rw en at h)) ∙ fault_none 0)
+      pub frame_good : not b ≡ false → n ≤ length f - at - 4 → 0 ≡ frame_fault f at kind size
+      frame_good t h = sym (past_kind ∙ fault_past _ 3 _ 0 (ap not (due ∙ not-false b t)) ∙ fault_past _ 1 _ 0 (le-ltb _ _ (rw en at h)) ∙ fault_none 0)
 
-      pub wrong_length : b ≡ false → 3 ≡ frame_fault f at kind size
-      wrong_length h = sym (past_kind ∙ fault_here _ 3 _ 0 (ap not (due ∙ h)))
+      pub wrong_length : not b ≡ true → 3 ≡ frame_fault f at kind size
+      wrong_length h = sym (past_kind ∙ fault_here _ 3 _ 0 (ap not (due ∙ not-true b h)))
 
--- ---- `entries_fit`: b is entry x
+-- ---- `terms_fit`: b is the body, t its term j, u whether that rises
 
-pub no_entry : (f : List ℕ) (start bound : ℕ) → all 0 (entry_fits f start bound) ≡ true
-unfolding all
-no_entry f start bound = refl
+-- the term before term j, if there is one
+pub term_before : List ℕ → ℕ → Option ℕ
+term_before b zero = None
+term_before b (suc j) = Some (u32_at b (4 * j))
 
-module _ (f : List ℕ) (start n bound x : ℕ) where
-  module _ (h : x < n) (b : ℕ) (eb : b ≡ get_or f (start + x) 0) where
-    pub entry_beyond : bound ≤ b → false ≡ all n (entry_fits f start bound)
-    entry_beyond q = sym (all_fails _ _ x h (entry_high _ _ _ _ (omega arith)))
+rises_at : (b : List ℕ) (j t : ℕ) → option_map_or (λ a. before a t) (term_before b j) true ≡ (eqb j 0 || before (previous b 0 j) t)
+unfolding term_before previous
+rises_at b zero t = refl
+rises_at b (suc j) t =
+    let e : 4 * j ≡ 0 + 4 * j = omega arith in
+    simp (ne_eqb (suc j) 0 (λ z. absurd (omega (arith, z)))) (ap (λ (x : ℕ). before (u32_at b x) t) e)
 
-    pub entry_more : all x (entry_fits f start bound) ≡ true → b < bound → all (x + 1) (entry_fits f start bound) ≡ true
-    entry_more a q = all_more _ _ a (entry_fits_lem _ _ _ _ (omega arith))
+-- the terms passed fit, `latest` is the last of them, and l are those that are left
+pub record Passed (b : List ℕ) (bound : ℕ) (latest : Option ℕ) (l : List ℕ) : Type 0 where
+  pub j : ℕ
+  pub within : j ≤ length b / 4
+  pub fit : all j (term_fits b 0 bound) ≡ true
+  pub kept : latest ≡ term_before b j
+  pub left : l ≡ term_list (drop (4 * j) b)
 
-  pub entries_done : x ≤ n → n ≤ x → all x (entry_fits f start bound) ≡ true → true ≡ all n (entry_fits f start bound)
-  entries_done a b e = let q : x ≡ n = omega arith in sym (rw q at e)
+pub none_passed : (b l : List ℕ) (bound : ℕ) → l ≡ term_list b → Passed b bound None l
+unfolding all term_before
+none_passed b l bound e = record { j = 0; within = omega arith; fit = refl; kept = refl; left = e }
 
--- ---- `rises`
+module _ (b l : List ℕ) (bound : ℕ) (latest : Option ℕ) (w : Passed b bound latest l) where
+  count : (length b - 4 * w.j) / 4 ≡ length l
+  count = ap (λ (x : ℕ). x / 4) (sym (length-drop (4 * w.j) b)) ∙ count_is (drop (4 * w.j) b) ∙ ap length (sym w.left)
 
-module _ (j a t : ℕ) where
-  pub first_rises : j ≡ 0 → true ≡ (eqb j 0 || before a t)
-  first_rises e = simp (eq-eqb _ _ e)
+  -- none is left
+  pub all_passed : l ≡ [] → true ≡ all (length b / 4) (term_fits b 0 bound)
+  all_passed e =
+      let n : (length b - 4 * w.j) / 4 ≡ 0 = count ∙ ap length e in
+      let q : w.j ≡ length b / 4 = omega (arith, w.within, n) in
+      sym (rw q at w.fit)
 
-  pub later_rises : (j ≡ 0 → ⊥) → (r : Bool) → r ≡ before a t → r ≡ (eqb j 0 || before a t)
-  later_rises n r e = e ∙ simp (ne_eqb _ _ n)
+  -- the term t is the first of those that are left
+  module _ (t : ℕ) (r : List ℕ) (e : l ≡ t ∷ r) where
+    stands : w.j < length b / 4
+    stands = let n : (length b - 4 * w.j) / 4 ≡ suc (length r) = count ∙ ap length e in omega (arith, n)
 
--- ---- `terms_fit`: t is term j, a the one before, u whether it rises
+    first : t ∷ r ≡ u32_at b (4 * w.j) ∷ term_list (drop (4 * w.j + 4) b)
+    first = sym e ∙ w.left ∙ terms_cons b (4 * w.j) (omega (arith, stands))
 
-pub no_term : (f : List ℕ) (start bound : ℕ) → all 0 (term_fits f start bound) ≡ true
-unfolding all
-no_term f start bound = refl
+    here : t ≡ u32_at b (0 + 4 * w.j)
+    here =
+        let q : 4 * w.j ≡ 0 + 4 * w.j = omega arith in
+        ap (λ (x : List ℕ). get_or x 0 0) first ∙ ap (λ (x : ℕ). u32_at b x) q
 
-pub no_latest : (f : List ℕ) (start : ℕ) → 0 ≡ previous f start 0
-unfolding previous
-no_latest f start = refl
+    rest : r ≡ term_list (drop (4 * (w.j + 1)) b)
+    rest =
+        let q : 4 * w.j + 4 ≡ 4 * (w.j + 1) = omega arith in
+        ap (λ (x : List ℕ). drop 1 x) first ∙ ap (λ (x : ℕ). term_list (drop x b)) q
 
-pub latest_more : (f : List ℕ) (start j t : ℕ) → t ≡ u32_at f (start + 4 * j) → t ≡ previous f start (j + 1)
-latest_more f start j t e = e ∙ sym (previous_more f start 0 j)
+    latest_here : Some t ≡ term_before b (w.j + 1)
+    unfolding term_before
+    latest_here = simp towards_suc (ap Some (ap (λ (x : List ℕ). get_or x 0 0) first))
 
-module _ (f : List ℕ) (start n bound j : ℕ) where
-  module _ (h : j < n) (t : ℕ) (et : t ≡ u32_at f (start + 4 * j)) where
-    pub term_beyond : bound ≤ t → false ≡ all n (term_fits f start bound)
-    term_beyond q = sym (all_fails _ _ j h (term_high _ _ _ _ (omega arith)))
+    pub term_beyond : bound ≤ t → false ≡ all (length b / 4) (term_fits b 0 bound)
+    term_beyond q = sym (all_fails _ _ w.j stands (term_high _ _ _ _ (rw here at q)))
 
-    module _ (a : ℕ) (ea : a ≡ previous f start j) (u : Bool) (eu : u ≡ (eqb j 0 || before a t)) where
-      rise : (eqb j 0 || before (previous f start j) (u32_at f (start + 4 * j))) ≡ u
-      rise = sym (rw (et, ea) at eu)
+    module _ (u : Bool) (eu : u ≡ option_map_or (λ a. before a t) latest true) where
+      rise : (eqb w.j 0 || before (previous b 0 w.j) (u32_at b (0 + 4 * w.j))) ≡ u
+      rise = sym (rw here at (eu ∙ ap (λ (o : Option ℕ). option_map_or (λ a. before a t) o true) w.kept ∙ rises_at b w.j t))
 
-      pub term_no_rise : not u ≡ true → false ≡ all n (term_fits f start bound)
-      term_no_rise q = sym (all_fails _ _ j h (term_falls _ _ _ _ (rise ∙ not-true u q)))
+      pub term_no_rise : not u ≡ true → false ≡ all (length b / 4) (term_fits b 0 bound)
+      term_no_rise q = sym (all_fails _ _ w.j stands (term_falls _ _ _ _ (rise ∙ not-true u q)))
 
-      pub term_more : all j (term_fits f start bound) ≡ true → t < bound → not u ≡ false → all (j + 1) (term_fits f start bound) ≡ true
-      term_more e l q = all_more _ _ e (term_fits_lem _ _ _ _ (rise ∙ not-false u q) (omega arith))
+      pub term_more : not u ≡ false → t < bound → Passed b bound (Some t) r
+      term_more q k = record {
+        j = w.j + 1;
+        within = omega (arith, stands);
+        fit = all_more _ _ w.fit (term_fits_lem _ _ _ _ (rise ∙ not-false u q) (rw here at k));
+        kept = latest_here;
+        left = rest;
+      }
 
-  pub terms_done : j ≤ n → n ≤ j → all j (term_fits f start bound) ≡ true → true ≡ all n (term_fits f start bound)
-  terms_done a b e = let q : j ≡ n = omega arith in sym (rw q at e)
+-- ---- `faultless`: k is the record's kind, z its size, b the body, p the bound, t whether the body passes
 
--- ---- `fault`: r is the frame's, n the length of the body, p the bound, t whether the body passes
+module _ (f : List ℕ) (h : Head) (i at : ℕ) (k : Kind) (ek : code k ≡ kind_due h i) (z : ℕ) (ez : z ≡ size_due h (code k)) where
+  pub frame_fault_lem : (r : Reason) → number r ≡ frame_fault f at (code k) z → number r ≡ fault_at f h i at
+  frame_fault_lem r e = e ∙ sym (fault_frame f h i at (code k) z ek ez (λ q. number_some r (e ∙ q)))
 
-module _ (f : List ℕ) (at kind size r : ℕ) (er : r ≡ frame_fault f at kind size) (z : r ≡ 0) where
-  none : frame_fault f at kind size ≡ 0
-  none = sym er ∙ z
+  module _ (n : 0 ≡ frame_fault f at (code k) z) (b : List ℕ) (eb : b ≡ take (u16_at f at) (drop (at + 4) f)) where
+    there : at + 4 + u16_at f at ≤ length f
+    there = (framed f at (code k) z (sym n)).rest
 
-  pub length_there : at + 2 ≤ length f
-  length_there = omega (arith, (framed f at kind size none).rest)
+    pub body_length : length b ≡ u16_at f at
+    body_length = length_in f b (at + 4) (u16_at f at) eb there
 
-  module _ (n : ℕ) (en : n ≡ u16_at f at) where
-    pub body_there : at + 4 + n ≤ length f
-    body_there = omega (arith, (framed f at kind size none).rest)
+    pub no_body_fault : 1 ≤ i → (k ≡ kinds.Head) ⊎ (k ≡ kinds.End) → 0 ≡ fault_at f h i at
+    no_body_fault l q =
+        sym (fault_body f h i at (code k) z ek ez (sym n) ∙ body_4 _ _ _ _ _ (λ e. kind_later h i l (sym ek ∙ e)) (outer 2 (omega arith) (omega arith) q) (outer 3 (omega arith) (omega arith) q))
 
-    pub terms_there : at + 4 + 4 * (n / 4) ≤ length f
-    terms_there = omega (arith, (framed f at kind size none).rest)
+    module _ (p : ℕ) (t : Bool) where
+      module _ (q : k ≡ kinds.Table) (ep : p ≡ 2 ^ h.m) (et : t ≡ entries_below b p) where
+        entries : t ≡ all (u16_at f at) (entry_fits f (at + 4) p)
+        entries = et ∙ entries_in f b (at + 4) (u16_at f at) eb there p
 
-module _ (f : List ℕ) (h : Head) (i at kind size : ℕ) (k : kind ≡ kind_due h i) (s : size ≡ size_due h kind) (r : ℕ) (er : r ≡ frame_fault f at kind size) where
-  pub frame_fault_lem : (r ≡ 0 → ⊥) → r ≡ fault_at f h i at
-  frame_fault_lem e = er ∙ sym (fault_frame f h i at kind size k s (λ q. e (er ∙ q)))
-
-  module _ (z : r ≡ 0) where
-    pub no_body_fault : 1 ≤ i → (kind ≡ 2 → ⊥) → (kind ≡ 3 → ⊥) → 0 ≡ fault_at f h i at
-    no_body_fault l a b = sym (fault_body f h i at kind size k s (sym er ∙ z) ∙ body_4 _ _ _ _ _ (λ e. kind_later h i l (sym k ∙ e)) a b)
-
-    module _ (n : ℕ) (en : n ≡ u16_at f at) (p : ℕ) (t : Bool) where
-      module _ (q : kind ≡ 2) (ep : p ≡ 2 ^ h.m) (et : t ≡ all n (entry_fits f (at + 4) p)) where
         pub table_good : t ≡ true → 0 ≡ fault_at f h i at
-        table_good e = sym (fault_table f h i at kind size k s (sym er ∙ z) en q ep et e)
+        table_good e = sym (fault_table f h i at (code k) z ek ez (sym n) refl (ap code q) ep entries e)
 
         pub table_bad : t ≡ false → 5 ≡ fault_at f h i at
-        table_bad e = sym (fault_table f h i at kind size k s (sym er ∙ z) en q ep et e)
+        table_bad e = sym (fault_table f h i at (code k) z ek ez (sym n) refl (ap code q) ep entries e)
 
-      module _ (q : kind ≡ 3) (ep : p ≡ 2 ^ (h.m * h.s)) (et : t ≡ all (n / 4) (term_fits f (at + 4) p)) where
+      module _ (q : k ≡ kinds.List) (bits : ℕ) (es : bits ≡ h.m * h.s) (eq : p ≡ 2 ^ bits) (et : t ≡ all (length b / 4) (term_fits b 0 p)) where
+        ep : p ≡ 2 ^ (h.m * h.s)
+        ep = eq ∙ ap (λ (x : ℕ). 2 ^ x) es
+
+        terms : t ≡ all (u16_at f at / 4) (term_fits f (at + 4) p)
+        terms = et ∙ terms_in f b (at + 4) (u16_at f at) eb there p
+
         pub list_good : t ≡ true → 0 ≡ fault_at f h i at
-        list_good e = sym (fault_list f h i at kind size k s (sym er ∙ z) en q ep et e)
+        list_good e = sym (fault_list f h i at (code k) z ek ez (sym n) refl (ap code q) ep terms e)
 
         pub list_bad : t ≡ false → 6 ≡ fault_at f h i at
-        list_bad e = sym (fault_list f h i at kind size k s (sym er ∙ z) en q ep et e)
+        list_bad e = sym (fault_list f h i at (code k) z ek ez (sym n) refl (ap code q) ep terms e)

@@ -9,7 +9,7 @@ use Rattle.design.specs.Design.{Stage, Design, stage_of}
 use Rattle.records.specs.Records.{join, a_record}
 use Rattle.design.specs.Encode.{head_body}
 use Rattle.design.specs.Reading.{kind_due, last_of}
-use Rattle.design.specs.declared.Head.{Head}
+use Rattle.design.specs.Limits.{Head}
 
 abbrev pub head_for : Design → Head
 head_for d = record { m = d.m; s = d.s; k = d.k }

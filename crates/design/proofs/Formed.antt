@@ -15,7 +15,7 @@ use Rattle.design.specs.Limits.{greatest_terms}
 use Rattle.records.specs.Bytes.{u16_at, u32_at}
 use Rattle.design.specs.Design.{TableFits, ListFits, StageFits, WellFormed}
 use Rattle.design.specs.Reading.{number_of, kind_due, size_due, length_due, entry_fits, previous, term_fits, fault_at, means, reading, place, head_of, meaning, stage_at, table_at, list_at}
-use Rattle.design.specs.declared.Head.{Head}
+use Rattle.design.specs.Limits.{Head}
 use Rattle.design.proofs.Records.{entry_below, body_2, body_3, previous_more, fault_framed, body_none}
 use Rattle.design.proofs.Found.{fine, limits_file, stage_is, staged, number_low}
 use Rattle.design.proofs.Written.{list_size, last_two}

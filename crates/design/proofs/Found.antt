@@ -19,8 +19,8 @@ use Rattle.records.specs.Bytes.{u16_at}
 use Rattle.design.specs.Design.{Design, no_stage, stage_of, list_of}
 use Rattle.design.specs.Inside.Described.{Limits, Describes}
 use Rattle.design.specs.Reading.{last_of, number_of, kind_due, size_due, length_due, fault_at, Reading, refused, means, reading, walk, place, head_of, meaning, stage_at, table_at, list_at}
-use Rattle.design.specs.declared.Head.{Head}
-use Rattle.design.specs.declared.Layout.{Layout}
+use Rattle.design.specs.Limits.{Head}
+use Rattle.design.specs.Layout.{Layout}
 use Rattle.design.proofs.Limits.{Bounds, bounds}
 use Rattle.design.proofs.Records.{Framed, fault_framed}
 use Rattle.design.proofs.Walking.{head_within, place_next}

@@ -20,7 +20,7 @@ use Rattle.design.specs.Limits.{broken}
 use Rattle.design.specs.Design.{Design}
 use Rattle.design.specs.Reading.{length_due, fault_at, head_of, head_fault, last_of, refused, means, meaning, reading, walk}
 use Rattle.design.specs.Inside.Framing.{frame_fault}
-use Rattle.design.specs.declared.Head.{Head}
+use Rattle.design.specs.Limits.{Head}
 use Rattle.design.proofs.Records.{zero_or}
 use Rattle.design.proofs.Walking.{head_frame, head_body, head_refused, head_next}
 

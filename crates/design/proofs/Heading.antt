@@ -10,9 +10,15 @@ use borrow.Author.Tests.{lt-ltb, le-ltb, eq-eqb, ne_eqb}
 use mir.Syntax.{w32, w64}
 use mir.Val.{Fits}
 use Rattle.design.specs.Limits.{greatest_width, least_shares, greatest_shares, greatest_share_bits, greatest_stages, greatest_terms, greatest_records, broken, checked}
+use Rattle.records.specs.Kinds.{code}
+use Rattle.records.specs.declared.kind.Kind.{Kind}
+use Rattle.records.specs.declared.kind.Kind.TheVariants as kinds
+use Rattle.design.specs.Heads.{numbers}
+use Rattle.design.specs.declared.heads.Head as heads
 use Rattle.design.specs.Reading.{last_of, number_of, kind_due, size_due}
-use Rattle.design.specs.declared.Head.{Head}
-use Rattle.design.specs.declared.Checked.TheVariants.{Good, Beyond}
+use Rattle.design.specs.Limits.{Head}
+use Rattle.std.specs.Prelude.{Ok, Err}
+use Rattle.reasons.specs.declared.Reason.TheVariants.{LimitBroken}
 use Rattle.design.proofs.Limits.{bounds, product, records}
 
 -- ---- `Head::new`: the limit that is broken first
@@ -21,41 +27,41 @@ pub share_bits_fit : (m s : ℕ) → m ≤ greatest_width → s ≤ greatest_sha
 share_bits_fit m s a b = record { fits = omega (arith, product a b) }
 
 module _ (m s k : ℕ) where
-  pub no_width : m < 1 → Beyond ≡ checked m s k
+  pub no_width : m < 1 → Err LimitBroken ≡ checked m s k
   unfolding broken
   no_width h = simp (lt-ltb _ _ h)
 
   module _ (a : 1 ≤ m) where
-    pub too_wide : greatest_width < m → Beyond ≡ checked m s k
+    pub too_wide : greatest_width < m → Err LimitBroken ≡ checked m s k
     unfolding broken
     too_wide h = simp (le-ltb _ _ a, lt-ltb _ _ h)
 
     module _ (b : m ≤ greatest_width) where
-      pub few_shares : s < least_shares → Beyond ≡ checked m s k
+      pub few_shares : s < least_shares → Err LimitBroken ≡ checked m s k
       unfolding broken
       few_shares h = simp (le-ltb _ _ a, le-ltb _ _ b, lt-ltb _ _ h)
 
       module _ (c : least_shares ≤ s) where
-        pub many_shares : greatest_shares < s → Beyond ≡ checked m s k
+        pub many_shares : greatest_shares < s → Err LimitBroken ≡ checked m s k
         unfolding broken
         many_shares h = simp (le-ltb _ _ a, le-ltb _ _ b, le-ltb _ _ c, lt-ltb _ _ h)
 
         module _ (d : s ≤ greatest_shares) where
-          pub many_bits : greatest_share_bits < m * s → Beyond ≡ checked m s k
+          pub many_bits : greatest_share_bits < m * s → Err LimitBroken ≡ checked m s k
           unfolding broken
           many_bits h = simp (le-ltb _ _ a, le-ltb _ _ b, le-ltb _ _ c, le-ltb _ _ d, lt-ltb _ _ h)
 
           module _ (e : m * s ≤ greatest_share_bits) where
-            pub no_stage : k < 1 → Beyond ≡ checked m s k
+            pub no_stage : k < 1 → Err LimitBroken ≡ checked m s k
             unfolding broken
             no_stage h = simp (le-ltb _ _ a, le-ltb _ _ b, le-ltb _ _ c, le-ltb _ _ d, le-ltb _ _ e, lt-ltb _ _ h)
 
             module _ (f : 1 ≤ k) where
-              pub many_stages : greatest_stages < k → Beyond ≡ checked m s k
+              pub many_stages : greatest_stages < k → Err LimitBroken ≡ checked m s k
               unfolding broken
               many_stages h = simp (le-ltb _ _ a, le-ltb _ _ b, le-ltb _ _ c, le-ltb _ _ d, le-ltb _ _ e, le-ltb _ _ f, lt-ltb _ _ h)
 
-              pub within : k ≤ greatest_stages → Good (record { m = m; s = s; k = k }) ≡ checked m s k
+              pub within : k ≤ greatest_stages → Ok (record { m = m; s = s; k = k }) ≡ checked m s k
               unfolding broken
               within h = simp (le-ltb _ _ a, le-ltb _ _ b, le-ltb _ _ c, le-ltb _ _ d, le-ltb _ _ e, le-ltb _ _ f, le-ltb _ _ h)
 
@@ -77,8 +83,23 @@ module _ (m s k : ℕ) (l : broken m s k ≡ false) where
   pub last_low : 2 + k * (1 + m * s) < greatest_records
   last_low = let b = bounds m s k l in omega (arith, records b.k_high b.bits)
 
-  pub width_small : m < 64
-  width_small = omega (arith, (bounds m s k l).m_high)
+  pub width_high : m ≤ greatest_width
+  width_high = (bounds m s k l).m_high
+
+  pub width_small : (n : ℕ) → 32 ≤ n → m < n
+  width_small n h = omega (arith, width_high)
+
+  pub width_fits : Fits w32 m
+  width_fits = record { fits = omega (arith, width_high) }
+
+  pub shares_high : s ≤ greatest_shares
+  shares_high = (bounds m s k l).s_high
+
+  pub bits_low : m * s ≤ greatest_share_bits
+  bits_low = (bounds m s k l).bits
+
+  pub bits_some : 1 ≤ m * s
+  bits_some = omega (arith, (bounds m s k l).bits_low)
 
   pub bits_small : m * s < 64
   bits_small = omega (arith, (bounds m s k l).bits)
@@ -103,15 +124,15 @@ module _ (m s k : ℕ) (l : broken m s k ≡ false) where
     pub number_known : 2 + t * (1 + m * s) + r < greatest_records
     number_known = let d = low in let e = last_low in omega arith
 
-pub last_is : (h : Head) → 2 + h.k * (1 + h.m * h.s) ≡ last_of h
+pub last_is : (h : heads.Head) → 2 + h.k * (1 + h.m * h.s) ≡ last_of (numbers h)
 unfolding last_of
 last_is h = refl
 
-pub number_is : (h : Head) (t l : ℕ) → 2 + t * (1 + h.m * h.s) + l ≡ number_of h t l
+pub number_is : (h : heads.Head) (t l : ℕ) → 2 + t * (1 + h.m * h.s) + l ≡ number_of (numbers h) t l
 unfolding number_of
 number_is h t l = refl
 
-pub number_before : (h : Head) (t l : ℕ) → broken h.m h.s h.k ≡ false → t < h.k → l ≤ h.m * h.s → 2 + t * (1 + h.m * h.s) + l < last_of h
+pub number_before : (h : heads.Head) (t l : ℕ) → broken h.m h.s h.k ≡ false → t < h.k → l ≤ h.m * h.s → 2 + t * (1 + h.m * h.s) + l < last_of (numbers h)
 unfolding last_of
 number_before h t l b a c = low h.m h.s h.k b t l a c
 
@@ -143,21 +164,19 @@ module _ (h : Head) (i : ℕ) where
 
 -- ---- `size_due` of a kind
 
-module _ (h : Head) (kind : ℕ) where
-  pub size_head : kind ≡ 1 → 3 ≡ size_due h kind
+module _ (h : Head) (kind : Kind) where
+  pub size_head : kind ≡ kinds.Head → 3 ≡ size_due h (code kind)
   unfolding size_due
-  size_head e = simp (eq-eqb _ _ e)
+  size_head e = rw e refl
 
-  module _ (a : kind ≡ 1 → ⊥) where
-    pub size_table : kind ≡ 2 → (r : ℕ) → r ≡ 2 ^ h.m → r ≡ size_due h kind
-    unfolding size_due
-    size_table e r q = simp (ne_eqb _ _ a, eq-eqb _ _ e) q
+  pub size_table : kind ≡ kinds.Table → (r : ℕ) → r ≡ 2 ^ h.m → r ≡ size_due h (code kind)
+  unfolding size_due
+  size_table e r q = rw e q
 
-    module _ (b : kind ≡ 2 → ⊥) where
-      pub size_list : kind ≡ 3 → 4 * greatest_terms ≡ size_due h kind
-      unfolding size_due
-      size_list e = simp (ne_eqb _ _ a, ne_eqb _ _ b, eq-eqb _ _ e)
+  pub size_list : kind ≡ kinds.List → 4 * greatest_terms ≡ size_due h (code kind)
+  unfolding size_due
+  size_list e = rw e refl
 
-      pub size_end : (kind ≡ 3 → ⊥) → 0 ≡ size_due h kind
-      unfolding size_due
-      size_end e = simp (ne_eqb _ _ a, ne_eqb _ _ b, ne_eqb _ _ e)
+  pub size_end : kind ≡ kinds.End → 0 ≡ size_due h (code kind)
+  unfolding size_due
+  size_end e = rw e refl

@@ -19,3 +19,5 @@ pub mod Encoded
 pub mod Nested
 pub mod Theorems
 pub mod Bench
+pub mod Bodies
+pub mod Runs

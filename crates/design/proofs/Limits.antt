@@ -9,7 +9,8 @@ use mathlib.Core.List.{[], ◌∷◌}
 use Rattle.finite.specs.Tests.{pick}
 use Rattle.finite.proofs.Testing.{or_false}
 use Rattle.design.specs.Limits.{greatest_width, least_shares, greatest_shares, greatest_share_bits, greatest_stages, broken, checked, head_answer}
-use Rattle.design.specs.declared.Checked.TheVariants.{Good, Beyond}
+use Rattle.std.specs.Prelude.{Ok, Err}
+use Rattle.reasons.specs.declared.Reason.TheVariants.{LimitBroken}
 
 pub record Bounds (m s k : ℕ) : Type 0 where
   pub m_low : 1 ≤ m
@@ -62,13 +63,13 @@ module _ (m s k : ℕ) where
   pub head_answer_lem : head_answer (checked m s k) ≡ pick (broken m s k) (4, []) (0, m ∷ s ∷ k ∷ [])
   head_answer_lem = go (broken m s k)
     where
-      go : (b : Bool) → head_answer (pick b Beyond (Good (record { m = m; s = s; k = k }))) ≡ pick b (4, []) (0, m ∷ s ∷ k ∷ [])
+      go : (b : Bool) → head_answer (pick b (Err LimitBroken) (Ok (record { m = m; s = s; k = k }))) ≡ pick b (4, []) (0, m ∷ s ∷ k ∷ [])
       go true = refl
       go false = refl
 
   pub head_number : (head_answer (checked m s k)).0 ≡ pick (broken m s k) 4 0
   head_number = go (broken m s k)
     where
-      go : (b : Bool) → (head_answer (pick b Beyond (Good (record { m = m; s = s; k = k })))).0 ≡ pick b 4 0
+      go : (b : Bool) → (head_answer (pick b (Err LimitBroken) (Ok (record { m = m; s = s; k = k })))).0 ≡ pick b 4 0
       go true = refl
       go false = refl

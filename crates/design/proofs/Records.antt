@@ -17,7 +17,7 @@ use Rattle.anf.specs.Terms.{before}
 use Rattle.records.specs.Bytes.{byte, u16_at, u32_at}
 use Rattle.design.specs.Reading.{last_of, kind_due, size_due, length_due, frame_faults, entry_fits, previous, term_fits, body_faults, fault_at}
 use Rattle.design.specs.Inside.Framing.{frame_fault}
-use Rattle.design.specs.declared.Head.{Head}
+use Rattle.design.specs.Limits.{Head}
 use Rattle.design.specs.Limits.{broken}
 use Rattle.design.proofs.Limits.{head_number}
 

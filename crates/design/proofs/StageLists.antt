@@ -13,7 +13,7 @@ use Rattle.design.specs.Reading.{head_of, last_of, number_of, place, meaning}
 use Rattle.design.specs.Inside.Described.{Describes}
 use Rattle.records.specs.Inside.Terms.{terms}
 use Rattle.design.specs.Inside.StageLists.{body_at, Inside, AllInside, lists_of}
-use Rattle.design.specs.declared.Layout.{Layout}
+use Rattle.design.specs.Layout.{Layout}
 use Rattle.design.specs.Limits.{greatest_records, greatest_terms}
 use Rattle.design.proofs.Limits.{records}
 use Rattle.records.proofs.TermBytes.{terms_of_bytes, length_term_bytes}

@@ -9,18 +9,18 @@ use native.Mathlib.Nat.{add-sub_cancel_left}
 use lib.ListN.{length, get_or, take, drop}
 use lib.Pow.{pow_mono}
 use lib.Seq.{take_at, drop_at}
-use mir.Syntax.{w8, w64}
+use mir.Syntax.{w64}
 use mir.Val.{Fits}
-use borrow.Rule.Slice.Know.{Fit}
-use borrow.Table.Referent.{f_int}
-use Rattle.records.specs.Bytes.{u16_at, term_bytes}
+use Rattle.records.specs.Bytes.{Bytes, u16_at, term_bytes}
 use Rattle.records.specs.Records.{join, a_record, end_record}
 use Rattle.records.proofs.Overwriting.{two_records_length}
 use Rattle.design.specs.Design.{Design, stage_of, list_of}
 use Rattle.design.specs.Encode.{head_body, stage_bytes, encode}
 use Rattle.design.specs.Inside.Described.{Describes}
 use Rattle.design.specs.Reading.{number_of, meaning}
-use Rattle.design.specs.declared.Layout.{Layout}
+use Rattle.design.specs.Layout.{Layout}
+use Rattle.records.specs.Inside.Terms.{terms}
+use Rattle.records.proofs.TermBytes.{terms_of_bytes}
 use Rattle.design.proofs.Found.{Part, limited, box_part, table_part}
 use Rattle.design.proofs.Written.{list_part}
 use Rattle.design.proofs.Answered.{described}
@@ -32,9 +32,6 @@ slice_is : (f b : List ℕ) (from n k : ℕ) → Part f from k b → n ≡ k →
 slice_is f b from n k p e = ap (λ (x : ℕ). take x (drop from f)) (add-sub_cancel_left from n ∙ e) ∙ p.is
 
 module _ (f : List ℕ) (l : Layout) (d : Describes f l) where
-  pub width_small : l.head.m < 64
-  width_small = omega (arith, (limited f l d).m_high)
-
   pub list_fits : (x : ℕ) → x < l.head.m * l.head.s → Fits w64 (x + 1)
   list_fits x h = record { fits = omega (arith, (limited f l d).bits) }
 
@@ -70,9 +67,9 @@ module _ (f : List ℕ) (l : Layout) (d : Describes f l) where
 
   -- list j of stage t, record i
   module _ (t j : ℕ) (a : t < l.head.k) (b : j < l.head.m * l.head.s) (i : ℕ) (ei : i ≡ number_of l.head t (j + 1)) (from : ℕ)
-      (e : from ≡ get_or l.starts i 0) (bytes : Fit (f_int w8) 0 f) where
+      (e : from ≡ get_or l.starts i 0) (bytes : Bytes f) where
     list : (4 ≤ from) × Part f from (u16_at f (from - 4)) (term_bytes (list_of (meaning f) t j))
-    list = list_part f (λ x. omega (arith, bytes x)) l d t j i from a b ei e
+    list = list_part f bytes l d t j i from a b ei e
 
     -- four bytes stand before it, and two at a place among them are there
     pub head_before : (x : ℕ) → x ≤ 4 → x ≤ from
@@ -88,8 +85,8 @@ module _ (f : List ℕ) (l : Layout) (d : Describes f l) where
       pub list_end_fits : length f < 2 ^ 64 → Fits w64 (from + n)
       list_end_fits k = record { fits = omega (arith, list_there) }
 
-      pub list_is : take (from + n - from) (drop from f) ≡ term_bytes (list_of (meaning f) t j)
-      list_is = slice_is f _ from n _ list.1 en
+      pub list_is : (r : List ℕ) → r ≡ terms (take (from + n - from) (drop from f)) → r ≡ list_of (meaning f) t j
+      list_is r q = q ∙ ap terms (slice_is f _ from n _ list.1 en) ∙ terms_of_bytes (list_of (meaning f) t j)
 
 -- ---- the stages: what stands in the file of a design between the records of the head and the box and that of the end
 
@@ -125,9 +122,9 @@ module _ (f : List ℕ) (l : Layout) (d : Describes f l) where
       pub front_fits : (a : ℕ) → a ≡ 4 + 3 → Fits w64 (a + b)
       front_fits a ea = record { fits = omega (arith, entries_small) }
 
-      module _ (e : ℕ) (ee : e ≡ 4 + 0) (bytes : Fit (f_int w8) 0 f) where
+      module _ (e : ℕ) (ee : e ≡ 4 + 0) (bytes : Bytes f) where
         is_encoded : f ≡ encode (meaning f)
-        is_encoded = read_encodes f (meaning f) (λ x. omega (arith, bytes x)) d.read
+        is_encoded = read_encodes f (meaning f) bytes d.read
 
         its_length : length f ≡ 7 + (4 + p) + length (join (map stage_bytes (meaning f).stages)) + 4
         its_length = omega (arith, ap length is_encoded, parts_length (meaning f), box_size)

@@ -15,7 +15,7 @@ use Rattle.design.specs.Limits.{broken}
 use Rattle.design.specs.Reading.{last_of, kind_due, size_due, length_due, fault_at, head_fault, refused, means, reading, walk, place, head_of, meaning}
 use Rattle.design.specs.Inside.Framing.{frame_fault}
 use Rattle.design.specs.Inside.Described.{Limits}
-use Rattle.design.specs.declared.Head.{Head}
+use Rattle.design.specs.Limits.{Head}
 use Rattle.design.proofs.Records.{framed, fault_frame, fault_body, body_1, frame_none, fault_framed}
 
 module _ (f : List ℕ) (h : Head) (n i at : ℕ) where

@@ -18,8 +18,8 @@ use Rattle.design.specs.Design.{Design, stage_of, list_of}
 use Rattle.records.specs.Records.{join, a_record}
 use Rattle.design.specs.Inside.Described.{Describes}
 use Rattle.design.specs.Reading.{last_of, number_of, kind_due, size_due, length_due, means, reading, place, head_of, meaning, stage_at, table_at, list_at}
-use Rattle.design.specs.declared.Head.{Head}
-use Rattle.design.specs.declared.Layout.{Layout}
+use Rattle.design.specs.Limits.{Head}
+use Rattle.design.specs.Layout.{Layout}
 use Rattle.design.proofs.Flat.{head_for, stage_body, body_of, record_of, flat}
 use Rattle.design.proofs.Records.{Framed}
 use Rattle.design.proofs.Walking.{head_size}

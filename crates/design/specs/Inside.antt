@@ -2,3 +2,4 @@
 pub mod Described
 pub mod Framing
 pub mod StageLists
+pub mod Lists

@@ -1,11 +1,20 @@
 -- "Reading": what the reader answers. A supplier's own reader must answer just this.
 use Rattle.std.specs.Prelude.{ℕ, ◌+◌, List, ◌++◌, drop, replicate, eqb}
 use Rattle.finite.specs.Tests.{pick, tabulate}
-use Rattle.design.specs.Limits.{greatest_records}
+use Rattle.design.specs.Limits.{Head, greatest_records}
 use Rattle.design.specs.Reading.{Reading, refused, means, head_of, head_fault, last_of, place, reading}
-use Rattle.design.specs.declared.Head.{Head}
-use Rattle.design.specs.declared.HeadRead.{HeadRead}
-use Rattle.design.specs.declared.Layout.{Layout}
+
+-- what reading the head record alone finds: the reason of a refusal, or 0 and the head
+pub record HeadRead : Type 0 where
+  pub reason : ℕ
+  pub head : Head
+
+-- what reading finds: the reason and the place of a refusal, or zeros, the head and where each record's body starts
+pub record Layout : Type 0 where
+  pub reason : ℕ
+  pub place : ℕ
+  pub head : Head
+  pub starts : List ℕ
 
 abbrev pub no_head : Head
 no_head = record { m = 0; s = 0; k = 0 }

@@ -5,5 +5,7 @@ pub mod Encode
 pub mod Reading
 pub mod Refused
 pub mod Layout
+pub mod Heads
+pub mod Answers
 pub mod Bench
 pub mod Inside

@@ -1,9 +1,10 @@
 -- "What the library covers": the limits, which are fixed with the head and belong to it. "The design file": the limit of a list.
-use Rattle.std.specs.Prelude.{ℕ, ◌+◌, ◌*◌, ◌^◌, Bool, ◌||◌, List, [], ◌∷◌, ltb}
+use Rattle.std.specs.Prelude.{ℕ, ◌+◌, ◌*◌, ◌^◌, Bool, ◌||◌, List, [], ◌∷◌, ltb, Result, Ok, Err}
 use Rattle.finite.specs.Tests.{pick}
 use Rattle.anf.specs.Transform as transform
-use Rattle.design.specs.declared.Checked.{Checked}
-use Rattle.design.specs.declared.Checked.TheVariants.{Good, Beyond}
+use Rattle.reasons.specs.Numbers.{number}
+use Rattle.reasons.specs.declared.Reason.{Reason}
+use Rattle.reasons.specs.declared.Reason.TheVariants.{LimitBroken}
 
 abbrev pub greatest_width : ℕ
 greatest_width = transform.greatest_width
@@ -32,16 +33,22 @@ greatest_terms = 4096
 abbrev pub greatest_records : ℕ
 greatest_records = 3 + greatest_stages * (1 + greatest_share_bits)
 
+-- the head's three numbers: m bits, s shares, k stages
+pub record Head : Type 0 where
+  pub m : ℕ
+  pub s : ℕ
+  pub k : ℕ
+
 -- whether a head number breaks a limit
 unfoldable pub broken : ℕ → ℕ → ℕ → Bool
 broken m s k =
     ltb m 1 || ltb greatest_width m || ltb s least_shares || ltb greatest_shares s || ltb greatest_share_bits (m * s) || ltb k 1 || ltb greatest_stages k
 
 -- the answer of the head's constructor
-abbrev pub checked : ℕ → ℕ → ℕ → Checked
-checked m s k = pick (broken m s k) Beyond (Good (record { m = m; s = s; k = k }))
+abbrev pub checked : ℕ → ℕ → ℕ → Result Head Reason
+checked m s k = pick (broken m s k) (Err LimitBroken) (Ok (record { m = m; s = s; k = k }))
 
 -- the paper's number and values for each of its cases: "4 when a head number breaks a limit"
-abbrev pub head_answer : Checked → ℕ × List ℕ
-head_answer (Good h) = (0, h.m ∷ h.s ∷ h.k ∷ [])
-head_answer Beyond = (4, [])
+abbrev pub head_answer : Result Head Reason → ℕ × List ℕ
+head_answer (Ok h) = (0, h.m ∷ h.s ∷ h.k ∷ [])
+head_answer (Err r) = (number r, [])

@@ -3,10 +3,9 @@ use Rattle.std.specs.Prelude.{ℕ, zero, suc, ◌+◌, ◌*◌, ◌-◌, ◌/◌
 use Rattle.finite.specs.Tests.{pick, all, tabulate}
 use Rattle.finite.specs.Faults.{first_fault}
 use Rattle.anf.specs.Terms.{before}
-use Rattle.design.specs.Limits.{greatest_terms, broken, checked, head_answer}
+use Rattle.design.specs.Limits.{Head, greatest_terms, broken, checked, head_answer}
 use Rattle.design.specs.Design.{Stage, Design}
 use Rattle.records.specs.Bytes.{byte, u16_at, u32_at}
-use Rattle.design.specs.declared.Head.{Head}
 
 -- a refusal has a reason and a place
 pub data Reading : Type 0 where

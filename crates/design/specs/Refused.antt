@@ -4,7 +4,7 @@ use Rattle.anf.specs.Terms.{before}
 use Rattle.records.specs.Bytes.{byte, u16_at, u32_at}
 use Rattle.design.specs.Limits.{greatest_width, least_shares, greatest_shares, greatest_share_bits, greatest_stages, greatest_terms}
 use Rattle.design.specs.Reading.{head_of, last_of, kind_due, place}
-use Rattle.design.specs.declared.Head.{Head}
+use Rattle.design.specs.Limits.{Head}
 
 -- ---- what is due of record i, and what stands there
 

@@ -1,242 +1,163 @@
-// The tests of each record in the published order, and the walk over all records.
-ghost use Rattle.std.specs.Prelude.{◌≡◌, ◌||◌, ◌+◌, ◌*◌, ◌≤◌, ◌<◌, eqb, length};
+// Reading: the tests of each record in the published order, and the walk over all records.
+// They take the file and a place, and no slice from there: the place is what a fault names.
+ghost use Rattle.std.specs.Prelude.{◌≡◌, ◌+◌, ◌*◌, ◌/◌, ◌≤◌, ◌<◌, true, length, take, drop, IfOk};
+ghost use Rattle.std.specs.Option.{option_map_or};
 ghost use Rattle.finite.specs.Tests.{all};
 ghost use Rattle.anf.specs.Terms.{before};
-ghost use Rattle.design.specs.Limits.{greatest_records};
-ghost use Rattle.design.specs.Reading.{head_of, last_of, kind_due, size_due, length_due, entry_fits, term_fits, fault_at};
+ghost use Rattle.records.specs.Bytes.{u16_at};
+ghost use Rattle.records.specs.Kinds.{code};
+ghost use Rattle.reasons.specs.Numbers.{reason_of};
+ghost use Rattle.design.specs.Reading.{head_of, length_due, term_fits, fault_at};
 ghost use Rattle.design.specs.Inside.Framing.{frame_fault};
-ghost use Rattle.design.specs.Layout.{refused_head, head_read, refused_layout, layout_of};
-ghost use Rattle.design.specs.Inside.Described.{Limits};
+ghost use Rattle.design.specs.Layout.{head_read, layout_of};
+ghost use Rattle.design.specs.Heads.{numbers, head_reading};
+ghost use Rattle.design.specs.Answers.{layout_read};
 
-use super::{Checked, GREATEST_RECORDS, GREATEST_TERMS, Head, HeadRead, Layout};
-use finite::{power, wide};
-use records::{pair, stands_before, word};
+use super::{DesignFile, GREATEST_RECORDS, Head, ReadError};
+use anf::entries_below;
+use finite::power;
+use reasons::Reason;
+use records::{Kind, Terms, stands_before, u16_at};
 
 // Whether a record of this kind may have the length `n`.
-fn length_fits(kind: usize, size: usize, n: usize) -> bool
-    ensures { result ≡ length_due kind size n }
+fn length_fits(kind: Kind, size: usize, n: usize) -> bool
+    ensures { result ≡ length_due (code kind) size n }
 {
-    if kind == 3 {
-        if n % 4 == 0 {
-            return n <= size;
-        }
-        return false;
+    match kind {
+        Kind::List => n % 4 == 0 && n <= size,
+        _ => n == size,
     }
-    n == size
 }
 
-// The first fault of a record's head and length: 1, 2, 3, 1 in that order, or 0.
-fn framed(file: &[u8], at: usize, kind: usize, size: usize) -> usize
+// How many bytes the body of the record at `at` has.
+pub fn body_size(file: &[u8], at: usize) -> usize
+    requires { at + 2 ≤ length file.now }
+    ensures { (result ≡ u16_at file.now at) × (result < 65536) }
+{
+    usize::from(u16_at(file, at))
+}
+
+// The body of the record at `at`, where neither its head nor its length has a fault.
+fn framed(file: &[u8], at: usize, kind: Kind, size: usize) -> Result<&[u8], Reason>
     requires { at ≤ length file.now }
-    ensures { result ≡ frame_fault file.now at kind size }
+    ensures reason { reason_of result ≡ frame_fault file.now at (code kind) size }
+    ensures body { IfOk result (λ body. body.now ≡ take (u16_at file.now at) (drop (at + 4) file.now)) }
 {
     if file.len() - at < 4 {
-        return 1;
+        return Err(Reason::CutShort);
     }
-    if pair(file, at + 2) != kind {
-        return 2;
+    if u16_at(file, at + 2) != kind.code() {
+        return Err(Reason::WrongKind);
     }
-    let n = pair(file, at);
-    if length_fits(kind, size, n) {
-        if file.len() - at - 4 < n {
-            return 1;
-        }
-        return 0;
+    let n = body_size(file, at);
+    if !length_fits(kind, size, n) {
+        return Err(Reason::WrongLength);
     }
-    3
+    if file.len() - at - 4 < n {
+        return Err(Reason::CutShort);
+    }
+    Ok(&file[at + 4..at + 4 + n])
 }
 
-// The number of the end record, which is how many come before it.
-fn last(h: Head) -> usize
-    requires { Limits h }
-    ensures { (result ≡ last_of h) × (result < greatest_records) }
+// Whether the term `t` rises: it is the first, or the one before it stands before it.
+fn rises(latest: Option<u32>, t: u32) -> bool
+    ensures { result ≡ option_map_or (λ a. before a t) latest true }
 {
-    2 + h.k * (1 + h.m * h.s)
+    match latest {
+        None => true,
+        Some(a) => stands_before(a, t),
+    }
 }
 
-// The kind due at record `i`.
-fn kind_due(h: Head, i: usize) -> usize
-    requires { Limits h }
-    ensures { result ≡ kind_due h i }
+// Whether the terms of a list's body are all below `bound` and strictly rise.
+fn terms_fit(body: &[u8], bound: u32) -> bool
+    ensures { result ≡ all (length body.now / 4) (term_fits body.now 0 bound) }
 {
-    if i == 0 {
-        return 1;
-    }
-    if i == 1 {
-        return 2;
-    }
-    let end = last(h);
-    if i == end {
-        return 4;
-    }
-    if (i - 2) % (1 + h.m * h.s) == 0 {
-        return 2;
-    }
-    3
-}
-
-// The length due of a kind; of kind 3 the greatest.
-fn size_due(h: Head, kind: usize) -> usize
-    requires { Limits h }
-    ensures { result ≡ size_due h kind }
-{
-    if kind == 1 {
-        return 3;
-    }
-    if kind == 2 {
-        return power(h.m);
-    }
-    if kind == 3 {
-        return 4 * GREATEST_TERMS;
-    }
-    0
-}
-
-// Whether the `n` bytes from `start` are all below `bound`.
-fn entries_fit(file: &[u8], start: usize, n: usize, bound: usize) -> bool
-    requires { start + n ≤ length file.now }
-    ensures { result ≡ all n (entry_fits file.now start bound) }
-{
-    let mut x = 0;
-    while x < n {
-        if bound <= wide(file[start + x]) {
-            return false;
-        }
-        x += 1;
-    }
-    true
-}
-
-// Whether term `j` rises: it is the first, or the term before it stands before it.
-fn rises(j: usize, a: u32, t: u32) -> bool
-    ensures { result ≡ (eqb j 0 || before a t) }
-{
-    if j == 0 {
-        return true;
-    }
-    stands_before(a, t)
-}
-
-// Whether the `n` terms from `start` are all below `bound` and strictly rise.
-fn terms_fit(file: &[u8], start: usize, n: usize, bound: u32) -> bool
-    requires { start + 4 * n ≤ length file.now }
-    ensures { result ≡ all n (term_fits file.now start bound) }
-{
-    let mut j = 0;
-    let mut latest: u32 = 0;
-    while j < n {
-        let t = word(file, start + 4 * j);
-        let up = rises(j, latest, t);
-        if !up {
+    let mut latest: Option<u32> = None;
+    for t in Terms::new(body).iter() {
+        if !rises(latest, t) {
             return false;
         }
         if bound <= t {
             return false;
         }
-        latest = t;
-        j += 1;
+        latest = Some(t);
     }
     true
 }
 
-// The first fault of record `i`, which starts at `at`, or 0.
-fn fault(file: &[u8], h: Head, i: usize, at: usize) -> usize
-    requires { Limits h × (1 ≤ i) × (at ≤ length file.now) }
-    ensures { result ≡ fault_at file.now h i at }
+// The length of the body of record `i`, which starts at `at`, where the record has no fault.
+fn faultless(file: &[u8], head: Head, i: usize, at: usize) -> Result<usize, Reason>
+    requires { (1 ≤ i) × (at ≤ length file.now) }
+    ensures reason { reason_of result ≡ fault_at file.now (numbers head) i at }
+    ensures size { IfOk result (λ n. n ≡ u16_at file.now at) }
 {
-    let kind = kind_due(h, i);
-    let size = size_due(h, kind);
-    let r = framed(file, at, kind, size);
-    if r != 0 {
-        return r;
-    }
-    let n = pair(file, at);
-    if kind == 2 {
-        if entries_fit(file, at + 4, n, power(h.m)) {
-            return 0;
+    let kind = head.kind_due(i);
+    let body = framed(file, at, kind, head.size_due(kind))?;
+    match kind {
+        Kind::Table => {
+            if entries_below(body, head.points()) {
+                return Ok(body.len());
+            }
+            Err(Reason::EntryTooLarge)
         }
-        return 5;
-    }
-    if kind == 3 {
-        if terms_fit(file, at + 4, n / 4, power(h.m * h.s) as u32) {
-            return 0;
+        Kind::List => {
+            if terms_fit(body, power(head.share_bits()) as u32) {
+                return Ok(body.len());
+            }
+            Err(Reason::BadTerm)
         }
-        return 6;
-    }
-    0
-}
-
-// The layout of a file that does not read.
-fn refusal(reason: usize, place: usize) -> Layout
-    ensures { result ≡ refused_layout reason place }
-{
-    Layout {
-        reason,
-        place,
-        head: Head { m: 0, s: 0, k: 0 },
-        starts: [0usize; GREATEST_RECORDS],
+        Kind::Head | Kind::End => Ok(body.len()),
     }
 }
 
 // The records after the head.
-fn walk(file: &[u8], h: Head) -> Layout
-    requires { Limits h × (h ≡ head_of file.now) × (fault_at file.now h 0 0 ≡ 0) }
-    ensures { result ≡ layout_of file.now }
+fn walk(file: &[u8], head: Head) -> Result<DesignFile<'_>, ReadError>
+    requires { (numbers head ≡ head_of file.now) × (fault_at file.now (numbers head) 0 0 ≡ 0) }
+    ensures layout { layout_read result ≡ layout_of file.now }
+    ensures file { IfOk result (λ d. d.file.now ≡ file.now) }
 {
-    let n = last(h) + 1;
     let mut starts = [0usize; GREATEST_RECORDS];
     starts[0] = 4;
-    let mut i = 1;
     let mut at = 7;
-    while i < n {
-        let r = fault(file, h, i, at);
-        if r != 0 {
-            return refusal(r, at);
+    for i in 1..head.last() + 1 {
+        // A match, as `map_err` would need a contract at its closure, which is no plainer.
+        match faultless(file, head, i, at) {
+            Ok(n) => {
+                starts[i] = at + 4;
+                at = at + 4 + n;
+            }
+            Err(reason) => return Err(ReadError { reason, place: at }),
         }
-        starts[i] = at + 4;
-        at = at + 4 + pair(file, at);
-        i += 1;
     }
     if at < file.len() {
-        return refusal(7, at);
+        return Err(ReadError {
+            reason: Reason::BytesFollow,
+            place: at,
+        });
     }
-    Layout {
-        reason: 0,
-        place: 0,
-        head: h,
-        starts,
-    }
+    Ok(DesignFile { file, head, starts })
 }
 
-// The answer where the head record is refused.
-fn no_head(reason: usize) -> HeadRead
-    ensures { result ≡ refused_head reason }
+/// Reads the head record alone.
+pub fn read_head(file: &[u8]) -> Result<Head, Reason>
+    ensures { head_reading result ≡ head_read file.now }
 {
-    let head = Head { m: 0, s: 0, k: 0 };
-    HeadRead { reason, head }
+    let body = framed(file, 0, Kind::Head, 3)?;
+    let m = usize::from(body[0]);
+    let s = usize::from(body[1]);
+    let k = usize::from(body[2]);
+    Head::new(m, s, k)
 }
 
-// Reads the head record alone.
-pub fn read_head(file: &[u8]) -> HeadRead
-    ensures { result ≡ head_read file.now }
+/// Reads a design file: the head record, then the others.
+pub fn read(file: &[u8]) -> Result<DesignFile<'_>, ReadError>
+    ensures layout { layout_read result ≡ layout_of file.now }
+    ensures file { IfOk result (λ d. d.file.now ≡ file.now) }
 {
-    let r = framed(file, 0, 1, 3);
-    if r != 0 {
-        return no_head(r);
+    // A match, as `map_err` would need a contract at its closure, which is no plainer.
+    match read_head(file) {
+        Ok(head) => walk(file, head),
+        Err(reason) => Err(ReadError { reason, place: 0 }),
     }
-    match Head::new(wide(file[4]), wide(file[5]), wide(file[6])) {
-        Checked::Good(h) => HeadRead { reason: 0, head: h },
-        Checked::Beyond => no_head(4),
-    }
-}
-
-// Reads a design file: the head record, then the others.
-pub fn read(file: &[u8]) -> Layout
-    ensures { result ≡ layout_of file.now }
-{
-    let first = read_head(file);
-    if first.reason != 0 {
-        return refusal(first.reason, 0);
-    }
-    walk(file, first.head)
 }

@@ -1,67 +1,70 @@
 -- Products that are put into their places one after another, as the expansion of the terms brings them, make the list of the definition: each comes once, and
 -- a rising list with a term more in its place is the rising list of the larger set.
 use mathlib.Core.Path.{◌≡◌, refl, sym, ap, ap₂, ◌∙◌}
-use mathlib.Core.Logic.{◌⊎◌, inl, inr}
+use mathlib.Core.Logic.{◌⊎◌, inl, inr, ⊎_elim}
 use mathlib.Core.Bool.{Bool, true, false, ◌&&◌, ◌||◌}
 use mathlib.Core.List.{List, [], ◌∷◌, ◌++◌, append-nil}
-use Prim.Native.Nat.{ℕ, zero, suc, ◌+◌, ◌-◌, ◌*◌, ◌/◌, ◌%◌, ◌^◌, ◌≤◌, ◌<◌}
+use Prim.Native.Nat.{ℕ, zero, suc, ◌+◌, ◌*◌, ◌^◌, ◌≤◌, ◌<◌}
 use native.Mathlib.Nat.{not-suc-le-zero, zero-add}
-use native.Mathlib.Numerals.{add-one}
+use native.Mathlib.Numerals.{one-add}
 use native.Mathlib.Omega.{arith}
 use lib.Pow.{pow_pos}
-use lib.Dec.{eqb, leb}
+use lib.Dec.{eqb}
 use lib.Bits.{bit_or}
-use lib.ListN.{length, get_or, set, take, drop}
-use lib.Seq.{take-suc, take-suc-set, take_all}
-use borrow.Author.Tests.{eqb-true, eq-eqb, ne_eqb, le-leb}
-use Rattle.finite.specs.Tests.{pick, implies, all, any, first, tabulate}
+use lib.ListN.{length, get_or}
+use borrow.Author.Tests.{eqb-true, eq-eqb, ne_eqb}
+use Rattle.finite.specs.Tests.{pick, any}
 use Rattle.finite.specs.Sets.{has}
-use Rattle.finite.proofs.Testing.{true_or_false, not_true_false, clash, below, pick_true, pick_false, and_intro, and_left, and_right}
-use Rattle.finite.proofs.Testing.{or_none, or_false_right, any_at, any_some, all_at, implies_at, tabulate_at}
+use Rattle.finite.proofs.Testing.{true_or_false, not_true_false, clash, below, pick_true, pick_false, and_intro, and_left}
+use Rattle.finite.proofs.Testing.{or_none, or_false_right, any_at, any_some}
 use Rattle.finite.proofs.Elements.{has_none}
 use Rattle.anf.specs.Terms.{before, passing}
 use Rattle.anf.proofs.Terms.{Rising, before_lt, before_not}
 use Rattle.anf.proofs.Passing.{passing_rising, passing_congr, passing_none}
-use Rattle.design.specs.Limits.{greatest_terms}
+use Rattle.design.specs.Limits.{greatest_terms, broken}
 use Rattle.design.proofs.Limits.{bounds}
 use Rattle.direct.specs.Direct.{is_product, chosen, component_for, stands, direct_list}
-use Rattle.direct.specs.Inside.Expanding.{joined, ending, emitted, inserted, inserted_all, brought, rule_tables, rule_rows, Follows, Expands, Gathers}
+use Rattle.direct.specs.Inside.Expanding.{joined, ending, emitted, placed_in, inserted_all, brought}
 use Rattle.direct.proofs.Products.{product_term}
-use Rattle.direct.proofs.Placement.{chosen_lt}
 use Rattle.direct.proofs.Formed.{list_size}
 use Rattle.direct.proofs.Emitting.{joined_within, inserted_all_append, inserted_one, inserted_none, ending_here, ending_other, through}
 use Rattle.direct.proofs.Choosing.{chosen_none, chosen_with, extends, extends_none, extends_all, extends_skip, extends_each, extends_apart, Clean, clean_with, with_lt}
 
 -- ---- a term in its place
 
+-- t stands before x, the first of a list, or behind it
+placed_in_here : (t x : ℕ) (l : List ℕ) → before t x ≡ true → placed_in t (x ∷ l) ≡ t ∷ x ∷ l
+placed_in_here t x l e = rw e refl
+
+placed_in_behind : (t x : ℕ) (l : List ℕ) → before t x ≡ false → placed_in t (x ∷ l) ≡ x ∷ placed_in t l
+placed_in_behind t x l e = rw (e, one-add) refl
+
 -- behind all
-inserted_last : (lo n : ℕ) (l : List ℕ) → Rising lo n l → inserted n l ≡ l ++ (n ∷ [])
-unfolding inserted
+inserted_last : (lo n : ℕ) (l : List ℕ) → Rising lo n l → placed_in n l ≡ l ++ (n ∷ [])
 inserted_last lo n [] r = refl
-inserted_last lo n (x ∷ l) r =
-    ap (λ (b : Bool). pick b n x ∷ inserted (pick b x n) l) (before_not n x (omega (arith, r.1))) ∙ ap (λ (y : List ℕ). x ∷ y) (inserted_last (suc x) n l r.2)
+inserted_last lo n (x ∷ l) r = placed_in_behind n x l (before_not n x (omega (arith, r.1))) ∙ ap (λ (y : List ℕ). x ∷ y) (inserted_last (suc x) n l r.2)
 
 -- before the last
-inserted_first : (lo n t : ℕ) (l : List ℕ) → Rising lo n l → t < n → inserted t (l ++ (n ∷ [])) ≡ inserted t l ++ (n ∷ [])
-unfolding inserted
-inserted_first lo n t [] r h = ap (λ (b : Bool). pick b t n ∷ pick b n t ∷ []) (before_lt t n h)
-inserted_first lo n t (x ∷ l) r h =
-    ap (λ (y : List ℕ). pick (before t x) t x ∷ y) (inserted_first (suc x) n (pick (before t x) x t) l r.2 (either (before t x)))
-  where
-    either : (b : Bool) → pick b x t < n
-    either true = r.1
-    either false = h
+inserted_first : (n t : ℕ) (l : List ℕ) → t < n → placed_in t (l ++ (n ∷ [])) ≡ placed_in t l ++ (n ∷ [])
+inserted_first n t [] h = placed_in_here t n [] (before_lt t n h)
+inserted_first n t (x ∷ l) h =
+    ⊎_elim
+    (λ e. placed_in_here t x (l ++ (n ∷ [])) e ∙ ap (λ (y : List ℕ). y ++ (n ∷ [])) (sym (placed_in_here t x l e)))
+    (λ e.
+    placed_in_behind t x (l ++ (n ∷ [])) e ∙ ap (λ (y : List ℕ). x ∷ y) (inserted_first n t l h)
+    ∙ ap (λ (y : List ℕ). y ++ (n ∷ [])) (sym (placed_in_behind t x l e)))
+    (true_or_false (before t x))
 
 -- the rising list of a set with t too
-pub inserted_passing : (n t : ℕ) (P : ℕ → Bool) → t < n → P t ≡ false → inserted t (passing n P) ≡ passing n (λ q. P q || eqb q t)
+pub inserted_passing : (n t : ℕ) (P : ℕ → Bool) → t < n → P t ≡ false → placed_in t (passing n P) ≡ passing n (λ q. P q || eqb q t)
 unfolding passing
 inserted_passing zero t P l f = absurd (not-suc-le-zero l)
 inserted_passing (suc n) t P l f =
     below l
     (λ e.
     let z : P n ≡ false = ap P (sym e) ∙ f in
-    ap₂ (λ (a : ℕ) (b : Bool). inserted a (passing n P ++ pick b (n ∷ []) [])) e z
-    ∙ ap (inserted n) (append-nil (passing n P))
+    ap₂ (λ (a : ℕ) (b : Bool). placed_in a (passing n P ++ pick b (n ∷ []) [])) e z
+    ∙ ap (placed_in n) (append-nil (passing n P))
     ∙ inserted_last 0 n (passing n P) (passing_rising n P)
     ∙ ap₂ ◌++◌
     (passing_congr n P (λ q. P q || eqb q t) (λ q k. sym (or_false_right (P q) (eqb q t) (ne_eqb q t (λ y. omega arith)))))
@@ -71,13 +74,13 @@ inserted_passing (suc n) t P l f =
     ∙ ap₂ ◌++◌ (inserted_passing n t P k f)
     (sym (ap (λ (b : Bool). pick b (n ∷ []) []) (or_false_right (P n) (eqb n t) (ne_eqb n t (λ y. omega arith))))))
   where
-    at : (b : Bool) → t < n → inserted t (passing n P ++ pick b (n ∷ []) []) ≡ inserted t (passing n P) ++ pick b (n ∷ []) []
-    at true k = inserted_first 0 n t (passing n P) (passing_rising n P) k
-    at false k = ap (inserted t) (append-nil (passing n P)) ∙ sym (append-nil (inserted t (passing n P)))
+    at : (b : Bool) → t < n → placed_in t (passing n P ++ pick b (n ∷ []) []) ≡ placed_in t (passing n P) ++ pick b (n ∷ []) []
+    at true k = inserted_first n t (passing n P) k
+    at false k = ap (placed_in t) (append-nil (passing n P)) ∙ sym (append-nil (placed_in t (passing n P)))
 
 -- ---- the products of a term
 
-module _ (rule : List ℕ) (m s u c : ℕ) (some : 0 < m) (follows : Follows s rule) where
+module _ (m s u c : ℕ) (some : 0 < m) where
   abbrev N : ℕ
   N = 2 ^ (m * s)
 
@@ -87,20 +90,17 @@ module _ (rule : List ℕ) (m s u c : ℕ) (some : 0 < m) (follows : Follows s r
   abbrev Added : ℕ → ℕ → Type 0
   Added v p =
       (P : ℕ → Bool) → ((q : ℕ) → q < N → extends m s u v p q ≡ true → P q ≡ false)
-      → inserted_all (emitted rule m s u c v p (chosen m s p)) (passing N P) ≡ passing N (λ q. P q || (extends m s u v p q && goes q))
+      → inserted_all (emitted m s u c v p (chosen m s p)) (passing N P) ≡ passing N (λ q. P q || (extends m s u v p q && goes q))
 
   -- no variable left
   added_end : (p : ℕ) → p < N → Added 0 p
   unfolding emitted
   added_end p lp P apart = at (true_or_false (goes p))
     where
-      is : get_or rule (chosen m s p) 0 ≡ component_for s (chosen m s p)
-      is = follows.at (chosen m s p) (chosen_lt m s p)
-
       at : (goes p ≡ true) ⊎ (goes p ≡ false)
-          → inserted_all (ending rule c p (chosen m s p)) (passing N P) ≡ passing N (λ q. P q || (extends m s u 0 p q && goes q))
+          → inserted_all (ending s c p (chosen m s p)) (passing N P) ≡ passing N (λ q. P q || (extends m s u 0 p q && goes q))
       at (inl t) =
-          ap (λ (ts : List ℕ). inserted_all ts (passing N P)) (ending_here rule c p (chosen m s p) (is ∙ eqb-true _ _ t))
+          ap (λ (ts : List ℕ). inserted_all ts (passing N P)) (ending_here s c p (chosen m s p) (eqb-true _ _ t))
           ∙ inserted_one p (passing N P)
           ∙ inserted_passing N p P lp (apart p lp (extends_none m s u p p some lp lp ∙ eq-eqb p p refl))
           ∙ passing_congr N _ _ (λ q l. ap (λ (b : Bool). P q || b) (here q (true_or_false (eqb q p)) ∙ ap (λ (b : Bool). b && goes q) (sym (extends_none m s u p q some lp l))))
@@ -110,7 +110,7 @@ module _ (rule : List ℕ) (m s u c : ℕ) (some : 0 < m) (follows : Follows s r
           here q (inr e) = e ∙ sym (ap (λ (b : Bool). b && goes q) e)
       at (inr f) =
           ap (λ (ts : List ℕ). inserted_all ts (passing N P))
-          (ending_other rule c p (chosen m s p) (λ e. clash (eq-eqb (component_for s (chosen m s p)) c (sym is ∙ e)) f))
+          (ending_other s c p (chosen m s p) (λ e. clash (eq-eqb (component_for s (chosen m s p)) c e) f))
           ∙ inserted_none (passing N P)
           ∙ passing_congr N _ _ (λ q l. sym (ap (λ (b : Bool). P q || (b && goes q)) (extends_none m s u p q some lp l) ∙ other q (true_or_false (eqb q p)) ∙ or_false_right (P q) false refl))
         where
@@ -126,13 +126,13 @@ module _ (rule : List ℕ) (m s u c : ℕ) (some : 0 < m) (follows : Follows s r
     -- the products of the first k shares
     added_shares : has u v ≡ true → (P : ℕ → Bool) → ((q : ℕ) → q < N → extends m s u (suc v) p q ≡ true → P q ≡ false)
         → (k : ℕ) → k ≤ s
-        → inserted_all (joined k (through rule m s u c v p (chosen m s p))) (passing N P) ≡ passing N (λ q. P q || (any k (λ j. extends m s u v (p_with j) q) && goes q))
+        → inserted_all (joined k (through m s u c v p (chosen m s p))) (passing N P) ≡ passing N (λ q. P q || (any k (λ j. extends m s u v (p_with j) q) && goes q))
     unfolding joined any
     added_shares t P apart zero h = inserted_none (passing N P) ∙ passing_congr N _ _ (λ q l. sym (or_false_right (P q) false refl))
     added_shares t P apart (suc k) h =
-        inserted_all_append (joined k (through rule m s u c v p (chosen m s p))) (through rule m s u c v p (chosen m s p) k) (passing N P)
-        ∙ ap (inserted_all (through rule m s u c v p (chosen m s p) k)) (added_shares t P apart k (omega arith))
-        ∙ ap (λ (J : ℕ). inserted_all (emitted rule m s u c v (p_with k) J) (passing N before_k)) (sym (chosen_with m s p k v h lv))
+        inserted_all_append (joined k (through m s u c v p (chosen m s p))) (through m s u c v p (chosen m s p) k) (passing N P)
+        ∙ ap (inserted_all (through m s u c v p (chosen m s p) k)) (added_shares t P apart k (omega arith))
+        ∙ ap (λ (J : ℕ). inserted_all (emitted m s u c v (p_with k) J) (passing N before_k)) (sym (chosen_with m s p k v h lv))
         ∙ onward (p_with k) (with_lt m s u v p lv clean k h lp) (clean_with m s u v p lv clean k h) before_k fresh
         ∙ passing_congr N _ _ (λ q l. group (P q) (any k (λ j. extends m s u v (p_with j) q)) (extends m s u v (p_with k) q) (goes q))
       where
@@ -158,7 +158,7 @@ module _ (rule : List ℕ) (m s u c : ℕ) (some : 0 < m) (follows : Follows s r
     added_more P apart = at (true_or_false (has u v))
       where
         at : (has u v ≡ true) ⊎ (has u v ≡ false)
-            → inserted_all (pick (has u v) (joined s (through rule m s u c v p (chosen m s p))) (emitted rule m s u c v p (chosen m s p))) (passing N P)
+            → inserted_all (pick (has u v) (joined s (through m s u c v p (chosen m s p))) (emitted m s u c v p (chosen m s p))) (passing N P)
             ≡ passing N (λ q. P q || (extends m s u (suc v) p q && goes q))
         at (inl t) =
             ap (λ (ts : List ℕ). inserted_all ts (passing N P)) (pick_true (has u v) _ _ t)
@@ -175,9 +175,9 @@ module _ (rule : List ℕ) (m s u c : ℕ) (some : 0 < m) (follows : Follows s r
 
 -- ---- the products of all terms of an output bit
 
-module _ (rule : List ℕ) (m s : ℕ) (some : 0 < m) (follows : Follows s rule) (words : ℕ → ℕ) (c b : ℕ) where
+module _ (m s : ℕ) (some : 0 < m) (words : ℕ → ℕ) (c b : ℕ) where
   abbrev pub brings : ℕ → List ℕ
-  brings u = brought rule m s c b (words u) u
+  brings u = brought m s c b (words u) u
 
   abbrev so_far : ℕ → ℕ → Bool
   so_far n q = any n (λ u. is_product m s u q && has (words u) b) && eqb (component_for s (chosen m s q)) c
@@ -194,8 +194,8 @@ module _ (rule : List ℕ) (m s : ℕ) (some : 0 < m) (follows : Follows s rule)
           → inserted_all (brings n) (passing (2 ^ (m * s)) (so_far n))
           ≡ passing (2 ^ (m * s)) (λ q. (any n (λ u. is_product m s u q && has (words u) b) || (is_product m s n q && has (words n) b)) && eqb (component_for s (chosen m s q)) c)
       at (inl t) =
-          ap (λ (ts : List ℕ). inserted_all ts (passing (2 ^ (m * s)) (so_far n))) (pick_true (has (words n) b) _ [] t ∙ ap (emitted rule m s n c m 0) (sym (chosen_none m s)))
-          ∙ added rule m s n c some follows m 0 (omega arith) (pow_pos (m * s)) (λ w l j k. has_none (m * j + w)) (so_far n)
+          ap (λ (ts : List ℕ). inserted_all ts (passing (2 ^ (m * s)) (so_far n))) (pick_true (has (words n) b) _ [] t ∙ ap (emitted m s n c m 0) (sym (chosen_none m s)))
+          ∙ added m s n c some m 0 (omega arith) (pow_pos (m * s)) (λ w l j k. has_none (m * j + w)) (so_far n)
           (λ q l e. ap (λ (x : Bool). x && eqb (component_for s (chosen m s q)) c) (not_true_false _ (λ y. fresh q (sym (extends_all m s n 0 q) ∙ e) (any_some n _ y))))
           ∙ passing_congr (2 ^ (m * s)) _ _ (λ q l. group (any n (λ u. is_product m s u q && has (words u) b)) (eqb (component_for s (chosen m s q)) c)
           (extends m s n m 0 q) (is_product m s n q) (has (words n) b) (extends_all m s n 0 q) t)
@@ -237,85 +237,35 @@ module _ (rule : List ℕ) (m s : ℕ) (some : 0 < m) (follows : Follows s rule)
 
 -- ---- how many
 
-inserted_length : (t : ℕ) (l : List ℕ) → length (inserted t l) ≡ suc (length l)
-unfolding inserted
+inserted_length : (t : ℕ) (l : List ℕ) → length (placed_in t l) ≡ suc (length l)
 inserted_length t [] = refl
-inserted_length t (x ∷ l) = ap suc (inserted_length (pick (before t x) x t) l)
+inserted_length t (x ∷ l) =
+    let ih = inserted_length t l in
+    ⊎_elim (λ e. ap length (placed_in_here t x l e)) (λ e. ap length (placed_in_behind t x l e) ∙ ap suc ih) (true_or_false (before t x))
 
-inserted_all_length : (ts l : List ℕ) → length (inserted_all ts l) ≡ length ts + length l
+pub inserted_all_length : (ts l : List ℕ) → length (inserted_all ts l) ≡ length ts + length l
 unfolding inserted_all
 inserted_all_length [] l = sym (zero-add (length l))
-inserted_all_length (t ∷ ts) l = inserted_all_length ts (inserted t l) ∙ omega (arith, inserted_length t l)
+inserted_all_length (t ∷ ts) l = inserted_all_length ts (placed_in t l) ∙ omega (arith, inserted_length t l)
 
--- ---- as the loop over the terms has it
+-- ---- the loop over the terms u, where w are the coefficient words
 
-module _ (rule : List ℕ) (m s : ℕ) (words : ℕ → ℕ) (size wide : ℕ) (g : Gathers rule m s wide size) (c b : ℕ) where
-  abbrev pub each : ℕ → List ℕ
-  each u = brought rule m s c b (words u) u
+unfoldable pub bringing : ℕ → ℕ → ℕ → ℕ → List ℕ → ℕ → List ℕ
+bringing m s c b w u = brought m s c b (get_or w u 0) u
 
-  some_variable : 0 < m
-  some_variable = omega (arith, (bounds m s 1 g.limits).m_low)
+module _ (m s : ℕ) (limits : broken m s 1 ≡ false) (c b : ℕ) (w : List ℕ) where
+  pub gathered_all : inserted_all (joined (2 ^ m) (bringing m s c b w)) [] ≡ direct_list m s (λ u. get_or w u 0) c b
+  unfolding bringing
+  gathered_all = gathered m s (omega (arith, (bounds m s 1 limits).m_low)) (λ u. get_or w u 0) c b
 
-  whole : inserted_all (joined (2 ^ m) each) [] ≡ direct_list m s words c b
-  whole = gathered rule m s some_variable g.follows words c b
-
-  pub whole_length : length (joined (2 ^ m) each) ≡ length (direct_list m s words c b)
-  whole_length = omega (arith, inserted_all_length (joined (2 ^ m) each) [], ap length whole)
-
-  pub few_terms : length (direct_list m s words c b) ≤ greatest_terms
-  few_terms = list_size m s words c b g.limits
-
-  pub term_asks : (u count : ℕ) → u < 2 ^ m → count ≡ length (joined u each) → Expands rule m s u 0 size count (each u)
-  term_asks u count l e = record {
-    limits = g.limits;
-    sets = g.follows.size;
-    within = l;
-    chosen = pow_pos s;
-    room = omega (arith, joined_within (2 ^ m) u each l, whole_length, few_terms, g.room);
-  }
-
-  pub all_terms : (u count : ℕ) (l : List ℕ) → u ≡ 2 ^ m → count ≡ length (joined u each) → l ≡ inserted_all (joined u each) []
-      → (count ≡ length (direct_list m s words c b)) × (l ≡ direct_list m s words c b)
-  all_terms u count l e ce le = (
-    ce ∙ ap (λ (k : ℕ). length (joined k each)) e ∙ whole_length,
-    le ∙ ap (λ (k : ℕ). inserted_all (joined k each) []) e ∙ whole,
-  )
-
--- ---- the tables of the rule
-
--- tested for each s below 6 and each set, by computing
-tables_tested : all 6 (λ s. implies (leb 3 s) (eqb (length (take (2 ^ s) (drop (2 ^ s - 8) rule_tables))) (2 ^ s)
-    && all (2 ^ s) (λ J. eqb (get_or (take (2 ^ s) (drop (2 ^ s - 8) rule_tables)) J 0) (component_for s J)))) ≡ true
-unfolding all rule_tables component_for first any has tabulate
-tables_tested = refl
-
-pub rules_length : length rule_tables ≡ 56
-unfolding rule_tables tabulate
-rules_length = refl
-
-rows_at : (i : ℕ) → i < 56 → get_or (get_or rule_rows (i / 8) []) (i % 8) 0 ≡ get_or rule_tables i 0
-unfolding rule_rows
-rows_at i h =
-    ap (λ (l : List ℕ). get_or l (i % 8) 0) (tabulate_at 7 (λ r. tabulate 8 (λ c. get_or rule_tables (8 * r + c) 0)) (i / 8) [] (omega arith))
-    ∙ tabulate_at 8 (λ c. get_or rule_tables (8 * (i / 8) + c) 0) (i % 8) 0 (omega arith)
-    ∙ ap (λ (k : ℕ). get_or rule_tables k 0) (omega arith)
-
--- the first i entries are copied from the rows
-module _ (tables : List ℕ) (i : ℕ) (l : length tables ≡ 56) (e : take i tables ≡ take i rule_tables) where
-  pub tables_more : i < 56 → (rows : List (List ℕ)) → rows ≡ rule_rows → take (i + 1) (set tables i (get_or (get_or rows (i / 8) []) (i % 8) 0)) ≡ take (i + 1) rule_tables
-  tables_more h rows er =
-      rw (er, rows_at i h, add-one)
-      (take-suc-set tables i (get_or rule_tables i 0) (omega arith)
-      ∙ ap (λ (x : List ℕ). x ++ (get_or rule_tables i 0 ∷ [])) e ∙ sym (take-suc rule_tables i 0 (omega (arith, rules_length))))
-
-  pub tables_all : i ≤ 56 → 56 ≤ i → tables ≡ rule_tables
-  tables_all a b = sym (take_all i tables (omega arith)) ∙ e ∙ take_all i rule_tables (omega (arith, rules_length))
-
--- the part of them for s shares
-pub rule_follows : (s : ℕ) → 3 ≤ s → s ≤ 5 → Follows s (take (2 ^ s) (drop (2 ^ s - 8) rule_tables))
-rule_follows s a b =
-    let t = implies_at (leb 3 s) _ (all_at 6 _ tables_tested s (omega arith)) (le-leb 3 s a) in
-    record {
-      size = eqb-true _ _ (and_left (eqb (length (take (2 ^ s) (drop (2 ^ s - 8) rule_tables))) (2 ^ s)) _ t);
-      at = λ J l. eqb-true _ _ (all_at (2 ^ s) _ (and_right (eqb (length (take (2 ^ s) (drop (2 ^ s - 8) rule_tables))) (2 ^ s)) _ t) J l);
-    }
+  -- there is room for what each term brings
+  pub bringing_fits : (u : ℕ) → u < 2 ^ m → length (inserted_all (joined u (bringing m s c b w)) []) + length (bringing m s c b w u) ≤ greatest_terms
+  bringing_fits u l =
+      omega (
+        arith,
+        inserted_all_length (joined u (bringing m s c b w)) [],
+        joined_within (2 ^ m) u (bringing m s c b w) l,
+        inserted_all_length (joined (2 ^ m) (bringing m s c b w)) [],
+        ap length gathered_all,
+        list_size m s (λ v. get_or w v 0) c b limits,
+      )

@@ -1,36 +1,55 @@
--- A term goes into its place by being compared with one term after another: what is left to do from here gives what the whole gives.
+-- A term put behind the last of n terms, and then rotated into its place.
 use mathlib.Core.Path.{◌≡◌, sym, ap, ap₂, ◌∙◌}
-use mathlib.Core.List.{List, [], ◌∷◌, ◌++◌, append_assoc}
-use Prim.Native.Nat.{ℕ, suc, ◌+◌, ◌≤◌, ◌<◌}
-use native.Mathlib.Numerals.{add-one}
+use mathlib.Core.Bool.{Bool, cond, not}
+use mathlib.Core.List.{List, [], ◌∷◌, ◌++◌}
+use Prim.Native.Nat.{ℕ, ◌+◌, ◌-◌, ◌≤◌, ◌<◌}
 use native.Mathlib.Omega.{arith}
-use lib.ListN.{length, get_or, set, take, drop, length-take}
-use lib.Seq.{take-suc-set, drop-cons, drop-set-lt, take-set-lt, get_or-take, drop-length}
-use Rattle.finite.specs.Tests.{pick}
+use native.Mathlib.Decide.{dec_lt}
+use lib.ListN.{length, set, take, drop, length-drop, length-set}
+use lib.Seq.{take-take}
+use borrow.Author.Tests.{lt-ltb, le-ltb}
+use Rattle.std.proofs.Common.{Option, Some, None}
+use Rattle.std.proofs.lemmas.Grind.{common_steps}
+use Rattle.std.proofs.lemmas.List.{length-take-le, take-set-le, take_more_set, drop-append-le}
+use Rattle.std.proofs.lemmas.List.Sums.{prefix_len-le-length}
+use Rattle.std.proofs.lemmas.Slice.{between_is, take-put_mid}
+use Rattle.std.specs.List.{position, position_or_len}
+use Rattle.std.specs.Option.{unwrap_or}
+use borrow.Rule.Slice.PartMut.{mid_of, put_mid}
 use Rattle.anf.specs.Terms.{before}
-use Rattle.direct.specs.Inside.Expanding.{inserted}
+use Rattle.design.specs.Limits.{greatest_terms}
+use Rattle.direct.specs.Inside.Expanding.{placed_in}
 
--- i terms are settled, and t goes on among the others of the first n
-abbrev pub going : ℕ → List ℕ → ℕ → ℕ → List ℕ
-going n l i t = take i l ++ inserted t (drop i (take n l))
+-- the place of a term
+place_is : (p : ℕ → Bool) (l : List ℕ) (n : ℕ) → length l ≡ n → unwrap_or (position p l) n ≡ position_or_len p l
+place_is p l n e = at (dec_lt (position_or_len p l) (length l))
+  where
+    at : Dec (position_or_len p l < length l) → unwrap_or (position p l) n ≡ position_or_len p l
+    at (yes h) = ap (λ (b : Bool). unwrap_or (cond b (Some (position_or_len p l)) None) n) (lt-ltb (position_or_len p l) (length l) h)
+    at (no h) =
+        ap (λ (b : Bool). unwrap_or (cond b (Some (position_or_len p l)) None) n) (le-ltb (position_or_len p l) (length l) (omega arith))
+        ∙ omega (arith, prefix_len-le-length (λ x. not (p x)) l)
 
-module _ (n : ℕ) (l : List ℕ) (i t : ℕ) (h : i < n) (k : n ≤ length l) where
-  pub going_on : going n (set l i (pick (before t (get_or l i 0)) t (get_or l i 0))) (i + 1) (pick (before t (get_or l i 0)) (get_or l i 0) t) ≡ going n l i t
-  unfolding inserted
-  going_on =
-      let x = get_or l i 0 in
-      let v = pick (before t x) t x in
-      let size : i < length (take n l) = omega (arith, length-take n l) in
-      ap (λ (a : ℕ). take a (set l i v) ++ inserted (pick (before t x) x t) (drop a (take n (set l i v)))) (add-one i)
-      ∙ ap₂ (λ (a b : List ℕ). a ++ inserted (pick (before t x) x t) b)
-      (take-suc-set l i v (omega arith))
-      (ap (drop (suc i)) (take-set-lt n l i v h) ∙ drop-set-lt (suc i) (take n l) i v (omega arith))
-      ∙ append_assoc (take i l) (v ∷ []) (inserted (pick (before t x) x t) (drop (suc i) (take n l)))
-      ∙ sym (ap (λ (a : List ℕ). take i l ++ inserted t a) (drop-cons (take n l) i 0 size ∙ ap (λ (y : ℕ). y ∷ drop (suc i) (take n l)) (get_or-take n l i 0 h)))
+-- a list with its last term brought to the front
+abbrev pub last_first : List ℕ → List ℕ
+last_first l = drop (length l - 1) l ++ take (length l - 1) l
 
-pub going_end : (n : ℕ) (l : List ℕ) (t : ℕ) → n < length l → take (n + 1) (set l n t) ≡ going n l n t
-unfolding inserted
-going_end n l t h =
-    let size : length (take n l) ≡ n = omega (arith, length-take n l) in
-    ap (λ (a : ℕ). take a (set l n t)) (add-one n) ∙ take-suc-set l n t h
-    ∙ sym (ap (λ (a : List ℕ). take n l ++ inserted t a) (ap (λ (a : ℕ). drop a (take n l)) (sym size) ∙ drop-length (take n l)))
+rotated : (l : List ℕ) (t : ℕ) → last_first (l ++ t ∷ []) ≡ t ∷ l
+rotated l t = grind (arith, common_steps)
+
+pub placed : (t n k : ℕ) (xs ys l : List ℕ) (o : Option ℕ) → length xs ≡ greatest_terms → n ≤ greatest_terms → take n xs ≡ l → length l < greatest_terms
+    → o ≡ position (before t) (take n xs) → k ≡ unwrap_or o n
+    → ys ≡ last_first (mid_of k (n + 1 - k) (set xs n t))
+    → take (n + 1) (put_mid k (n + 1 - k) (set xs n t) ys) ≡ placed_in t l
+placed t n k xs ys l o room most e few q w r =
+    let size : length (take n xs) ≡ n = length-take-le n xs (omega arith) in
+    let h : n < length xs = omega (arith, ap length e) in
+    let ke : k ≡ position_or_len (before t) (take n xs) = w ∙ ap (λ (x : Option ℕ). unwrap_or x n) q ∙ place_is (before t) (take n xs) n size in
+    let kn : k ≤ n = omega (arith, prefix_len-le-length (λ x. not (before t x)) (take n xs)) in
+    let mid : mid_of k (n + 1 - k) (set xs n t) ≡ drop k (take n xs) ++ t ∷ [] =
+    between_is (set xs n t) k (n + 1) ∙ ap (drop k) (take_more_set xs n t h) ∙ drop-append-le k (take n xs) (t ∷ []) (omega arith) in
+    let put : ys ≡ t ∷ drop k (take n xs) = r ∙ ap last_first mid ∙ rotated (drop k (take n xs)) t in
+    take-put_mid k (n + 1 - k) (set xs n t) ys (n + 1) (omega (arith, ap length put, length-drop k (take n xs))) (omega (arith, length-set xs n t))
+    ∙ ap₂ (λ (a z : List ℕ). a ++ z) (take-set-le k xs n t kn ∙ sym (take-take k n xs kn)) put
+    ∙ ap (λ (i : ℕ). take i (take n xs) ++ t ∷ drop i (take n xs)) ke
+    ∙ ap (placed_in t) e

@@ -10,5 +10,6 @@ pub mod Inserting
 pub mod Emitting
 pub mod Choosing
 pub mod Gathering
+pub mod Ruling
 pub mod Stepping
 pub mod Bench

@@ -1,59 +1,32 @@
 // The direct sharing: the rule, the expansion of terms into products, and the list of one bit of one component.
 #![tactic(auto)]
 
-ghost use Rattle.std.specs.Prelude.{◌≡◌, ◌+◌, ◌-◌, ◌^◌, ◌<◌, ◌≤◌, length, get_or, set, take};
+mod list; // list.rt: a list of terms that grows in fixed memory
+
+ghost use Rattle.std.specs.Prelude.{◌≡◌, true, false, MatchResult, ◌+◌, ◌-◌, ◌^◌, ◌<◌, ◌≤◌, length, get_or};
 ghost use Rattle.std.specs.Int.Bits.{bit_or};
-ghost use Rattle.finite.specs.Tests.{pick};
 ghost use Rattle.finite.specs.Sets.{has as has_element};
-ghost use Rattle.anf.specs.Terms.{before};
-ghost use Rattle.design.specs.Limits.{greatest_terms};
-ghost use Rattle.direct.specs.Direct.{direct_list};
-ghost use Rattle.direct.specs.Inside.Expanding.{ending, emitted, inserted, Grown, brought, rule_rows, rule_tables, Highest, Expands, Gathers};
+ghost use Rattle.design.specs.Limits.{greatest_terms, broken};
+ghost use Rattle.direct.specs.Direct.{component_for, direct_list};
+ghost use Rattle.direct.specs.Inside.Expanding.{emitted, inserted_all};
 
+use design::Head;
 use finite::power;
-use records::stands_before;
+pub use list::TermList;
+use reasons::Reason;
 
-// The rows of the rule's tables, eight sets of shares a row.
-const RULE_ROWS: usize = 7;
+// The component to which a product goes, by the set of its chosen shares, of three, four and five. Of all shares there is none.
+const OF_THREE: [u8; 8] = [0, 2, 0, 2, 1, 1, 0, 3];
 
-// The sets of three, of four and of five shares, together.
-pub const RULE_SETS: usize = 8 * RULE_ROWS;
+const OF_FOUR: [u8; 16] = [0, 3, 0, 3, 1, 1, 0, 3, 2, 2, 0, 2, 1, 1, 0, 4];
 
-// The component to which a product goes, by the set of its chosen shares. Of all shares there is none.
-const RULES: [[u8; 8]; RULE_ROWS] = [
-    // three shares
-    [0, 2, 0, 2, 1, 1, 0, 3],
-    // four
-    [0, 3, 0, 3, 1, 1, 0, 3],
-    [2, 2, 0, 2, 1, 1, 0, 4],
-    // five
-    [0, 4, 0, 4, 1, 1, 0, 4],
-    [2, 2, 0, 2, 1, 1, 0, 4],
-    [3, 3, 0, 3, 1, 1, 0, 3],
-    [2, 2, 0, 2, 1, 1, 0, 5],
+const OF_FIVE: [u8; 32] = [
+    0, 4, 0, 4, 1, 1, 0, 4, 2, 2, 0, 2, 1, 1, 0, 4, 3, 3, 0, 3, 1, 1, 0, 3, 2, 2, 0, 2, 1, 1, 0, 5,
 ];
 
-fn rule_rows() -> [[u8; 8]; RULE_ROWS]
-    ensures { result ≡ rule_rows }
-{
-    RULES
-}
-
-// The tables of the rule for 3, 4 and 5 shares, one behind the other.
-pub fn rules() -> [u8; RULE_SETS]
-    ensures { result ≡ rule_tables }
-{
-    let rows = rule_rows();
-    let mut tables = [0u8; RULE_SETS];
-    let mut i: usize = 0;
-    while i < RULE_SETS {
-        tables[i] = rows[i / 8][i % 8];
-        i += 1;
-    }
-    tables
-}
-
-// Whether the set x has the element i.
+// Parts of `gather` and `expand` as functions of their own, so that their goals speak of sets and not of shifts. Each asks for an element of a word, which as
+// a type of its own would be no plainer. Whether the set x has the element i.
+#[tactic(auto, unfolding(finite::specs::Sets::has))]
 fn has(x: u32, i: usize) -> bool
     requires { i < 32 }
     ensures { result ≡ has_element x i }
@@ -62,6 +35,7 @@ fn has(x: u32, i: usize) -> bool
 }
 
 // The set x with the element i too.
+#[tactic(auto, using(std::proofs::lemmas::Nat::one_shl))]
 fn with(x: u32, i: usize) -> u32
     requires { i < 32 }
     ensures { result ≡ bit_or x (2 ^ i) }
@@ -69,142 +43,75 @@ fn with(x: u32, i: usize) -> u32
     x | (1 << i)
 }
 
-// The highest element of a set that has one.
-fn highest(x: u32) -> usize
-    requires { 0 < x }
-    ensures { Highest x result }
-{
-    (31 - u32::leading_zeros(x)) as usize
-}
-
-// The set x without its highest element i.
+// The set x without its element i.
 fn without(x: u32, i: usize) -> u32
-    requires { Highest x i × (i < 32) }
+    requires { (2 ^ i ≤ x) × (i < 32) }
     ensures { result ≡ x - 2 ^ i }
 {
     x - (1 << i)
 }
 
-// The component that the rule names for the chosen shares.
-fn component(rule: &[u8], chosen: u32) -> usize
-    requires { chosen < length rule.now }
-    ensures { result ≡ get_or rule.now chosen 0 }
-{
-    rule[chosen as usize] as usize
+/// The rule of the direct sharing of m bits in s shares: the numbers of a head but that of the stages, which the rule does not need.
+#[derive(Clone, Copy)]
+pub struct Rule {
+    pub m: usize,
+    pub s: usize,
+    pub ghost limits: { broken m s 1 ≡ false },
 }
 
-// Leaves at i the one of t and the term there that stands before the other, and answers the other.
-fn settle(list: &mut [u32], i: usize, t: u32) -> u32
-    requires { i < length list.old }
-    ensures value { result ≡ pick (before t (get_or list.old i 0)) (get_or list.old i 0) t }
-    ensures list_after { list.new ≡ set list.old i (pick (before t (get_or list.old i 0)) t (get_or list.old i 0)) }
-{
-    let x = list[i];
-    if stands_before(t, x) {
-        list[i] = t;
-        return x;
+impl Rule {
+    /// The rule for m bits and s shares, if they break no limit.
+    pub fn new(m: usize, s: usize) -> Result<Rule, Reason>
+        ensures { MatchResult result (λ r. (r.m ≡ m) × (r.s ≡ s)) (λ e. (e ≡ Reason.LimitBroken) × (broken m s 1 ≡ true)) }
+    {
+        Head::new(m, s, 1)?;
+        Ok(Rule { m, s })
     }
-    t
-}
 
-// Puts t into its place among the first n terms.
-fn insert(list: &mut [u32], n: usize, t: u32)
-    requires { n < length list.old }
-    ensures { take (n + 1) list.new ≡ inserted t (take n list.old) }
-{
-    let mut carry = t;
-    let mut i: usize = 0;
-    while i < n {
-        carry = settle(list, i, carry);
-        i += 1;
+    // The component that the rule names for the chosen shares.
+    fn component(&self, chosen: u32) -> usize
+        requires { chosen < 2 ^ self.now.s }
+        ensures { result ≡ component_for self.now.s chosen }
+    {
+        let chosen = chosen as usize;
+        match self.s {
+            3 => usize::from(OF_THREE[chosen]),
+            4 => usize::from(OF_FOUR[chosen]),
+            _ => usize::from(OF_FIVE[chosen]),
+        }
     }
-    list[n] = carry;
-}
 
-// Puts the product p into its place among the first n terms, if it goes to the component `to`, and answers how many terms there are then.
-fn emit(rule: &[u8], to: usize, p: u32, chosen: u32, list: &mut [u32], n: usize) -> usize
-    requires { (chosen < length rule.now) × (n + length (ending rule.now to p chosen) ≤ length list.old) }
-    ensures { Grown (ending rule.now to p chosen) list.old n list.new result }
-{
-    if component(rule, chosen) != to {
-        return n;
+    // Puts into their places the products of the variables of u, on top of p, for which the shares `chosen` are chosen so far: those that go to the
+    // component `to`.
+    fn expand(&self, u: u32, to: usize, p: u32, chosen: u32, list: &mut TermList)
+        requires within { (u < 2 ^ self.now.m) × (chosen < 2 ^ self.now.s) }
+        requires room { length list.old + length (emitted self.now.m self.now.s u to self.now.m p chosen) ≤ greatest_terms }
+        ensures { list.new ≡ inserted_all (emitted self.now.m self.now.s u to self.now.m p chosen) list.old }
+    {
+        if u == 0 {
+            if self.component(chosen) == to {
+                list.insert(p);
+            }
+            return;
+        }
+        let v = u.ilog2() as usize;
+        let rest = without(u, v);
+        for j in 0..self.s {
+            let q = with(p, self.m * j + v);
+            self.expand(rest, to, q, with(chosen, j), list);
+        }
     }
-    insert(list, n, p);
-    n + 1
-}
 
-// The same of the products of the variables of u, on top of p.
-fn expand(
-    rule: &[u8],
-    m: usize,
-    s: usize,
-    u: u32,
-    to: usize,
-    p: u32,
-    chosen: u32,
-    list: &mut [u32],
-    n: usize,
-) -> usize
-    requires { Expands rule.now m s u chosen (length list.old) n (emitted rule.now m s u to m p chosen) }
-    ensures { Grown (emitted rule.now m s u to m p chosen) list.old n list.new result }
-{
-    if u == 0 {
-        return emit(rule, to, p, chosen, list, n);
+    /// Gathers the list of bit b of the component `to` from the coefficient words.
+    pub fn gather(&self, words: &[u8], to: usize, b: usize, list: &mut TermList)
+        requires { (b < self.now.m) × (2 ^ self.now.m ≤ length words.now) }
+        ensures { list.new ≡ direct_list self.now.m self.now.s (λ u. get_or words.now u 0) to b }
+    {
+        list.clear();
+        for (u, word) in words[..power(self.m)].iter().enumerate() {
+            if has(u32::from(*word), b) {
+                self.expand(u as u32, to, 0, 0, list);
+            }
+        }
     }
-    let v = highest(u);
-    let rest = without(u, v);
-    let mut count = n;
-    let mut j: usize = 0;
-    while j < s {
-        let q = with(p, m * j + v);
-        let with_j = with(chosen, j);
-        count = expand(rule, m, s, rest, to, q, with_j, list, count);
-        j += 1;
-    }
-    count
-}
-
-// What the term u adds to the list of bit b, where its coefficient word has that bit.
-fn add_term(
-    rule: &[u8],
-    m: usize,
-    s: usize,
-    to: usize,
-    b: usize,
-    word: u8,
-    u: u32,
-    list: &mut [u32],
-    n: usize,
-) -> usize
-    requires { (b < 32) × Expands rule.now m s u 0 (length list.old) n (brought rule.now m s to b word u) }
-    ensures { Grown (brought rule.now m s to b word u) list.old n list.new result }
-{
-    if !has(word as u32, b) {
-        return n;
-    }
-    expand(rule, m, s, u, to, 0, 0, list, n)
-}
-
-// Gathers the list of bit b of the component `to` from the coefficient words, and answers how many terms it has.
-pub fn gather(
-    rule: &[u8],
-    m: usize,
-    s: usize,
-    words: &[u8],
-    to: usize,
-    b: usize,
-    list: &mut [u32],
-) -> usize
-    requires { (b < m) × Gathers rule.now m s (length words.now) (length list.old) }
-    ensures value { (result ≡ length (direct_list m s (λ u. get_or words.now u 0) to b)) × (result ≤ greatest_terms) }
-    ensures list_after { take result list.new ≡ direct_list m s (λ u. get_or words.now u 0) to b }
-{
-    let n = power(m);
-    let mut count: usize = 0;
-    let mut u: usize = 0;
-    while u < n {
-        count = add_term(rule, m, s, to, b, words[u], u as u32, list, count);
-        u += 1;
-    }
-    count
 }

@@ -2,179 +2,80 @@
 // and the verdict in words.
 #![tactic(auto)]
 
-ghost use Rattle.std.specs.Prelude.{◌+◌, ◌*◌, ◌<◌, ◌≤◌};
-ghost use Rattle.design.specs.Inside.Described.{Describes};
+mod formula; // formula.rt: a table, a term, a formula, as they are printed
+mod refusal; // refusal.rt: a refusal in words
 
-use checker::Verdict;
-use design::Layout;
+ghost use Rattle.std.specs.Prelude.{◌<◌};
 
-fn print(text: &[u8]) {
-    io::write_all(1, text);
-}
+use checker::{Refusal, Verdict};
+use design::{DesignFile, Head};
+use formula::{Entries, Formula};
+use reasons::Reason;
+use refusal::InWords;
+use std::io;
+use std::io::Read;
 
-fn print_number(n: usize) {
-    io::print_decimal(1, n as u64);
-}
+// The most bytes of a file that is judged.
+const MOST_BYTES: usize = 32768;
 
-// A table's entries, in decimal.
-fn print_table(t: &[u8]) {
-    let mut x = 0;
-    while x < t.len() {
-        print(b" ");
-        print_number(finite::wide(t[x]));
-        x += 1;
-    }
-    print(b"\n");
-}
-
-// Whether the term names the variable i.
-fn named(t: u32, i: usize) -> bool
-    requires { i < 32 }
-{
-    (t >> i) % 2 == 1
-}
-
-// A term: its variables, bit b of share j as xj[b]; the empty one is 1.
-fn print_term(t: u32, m: usize, bits: usize)
-    requires { (0 < m) × (bits ≤ 32) }
-{
-    if t == 0 {
-        print(b"1");
-        return;
-    }
-    let mut some = false;
-    let mut i = 0;
-    while i < bits {
-        if named(t, i) {
-            print_variable(some, i / m, i % m);
-            some = true;
-        }
-        i += 1;
-    }
-}
-
-// A variable, after a dot where it is not the first.
-fn print_variable(some: bool, j: usize, b: usize)
-    requires { j ≤ 32 }
-{
-    if some {
-        print(b"\xc2\xb7");
-    }
-    print(b"x");
-    print_number(j + 1);
-    print(b"[");
-    print_number(b);
-    print(b"]");
-}
-
-// The formula of bit b of component j: the sum of its terms.
-fn print_formula(list: &[u8], j: usize, b: usize, m: usize, bits: usize)
-    requires { (0 < m) × (bits ≤ 32) × (j ≤ 32) }
-{
-    print(b"  y");
-    print_number(j + 1);
-    print(b"[");
-    print_number(b);
-    print(b"] =");
-    let n = records::count(list);
-    if n == 0 {
-        print(b" 0");
-    }
-    let mut i = 0;
-    while i < n {
-        if i == 0 {
-            print(b" ");
-        } else {
-            print(b" + ");
-        }
-        print_term(records::term(list, i), m, bits);
-        i += 1;
-    }
-    print(b"\n");
-}
+// The bytes of the greatest workspace: a bit for each sharing of the greatest share bits.
+const WORKSPACE: usize = 131072;
 
 // Stage t, counted from 0: its table, and the formula of each bit of each component.
-fn print_stage(file: &[u8], layout: Layout, t: usize)
-    requires { Describes file.now layout × (t < layout.head.k) }
+fn print_stage(rt: &impl Print, design: &DesignFile<'_>, t: usize) -> io::Result<()>
+    requires { t < design.now.head.k }
 {
-    print(b"stage ");
-    print_number(t + 1);
-    print(b"\n  G =");
-    print_table(design::table(file, layout, t));
-    let m = layout.head.m;
-    let bits = m * layout.head.s;
-    let mut i = 0;
-    while i < bits {
-        print_formula(design::list(file, layout, t, i), i / m, i % m, m, bits);
-        i += 1;
+    println!(rt; "stage {}", t + 1)?;
+    println!(rt; "  G ={}", Entries(design.table(t)))?;
+    let Head { m, s, .. } = design.head;
+    for i in 0..m * s {
+        let list = design.list(t, i);
+        println!(rt; "  y{}[{}] = {}", i / m + 1, i % m, Formula { list, m })?;
     }
+    Ok(())
 }
 
 // A design that was read.
-fn print_design(file: &[u8], layout: Layout)
-    requires { Describes file.now layout }
-{
-    print(b"m = ");
-    print_number(layout.head.m);
-    print(b" bits, s = ");
-    print_number(layout.head.s);
-    print(b" shares, k = ");
-    print_number(layout.head.k);
-    print(b" stages\nS =");
-    print_table(design::box_table(file, layout));
-    let k = layout.head.k;
-    let mut t = 0;
-    while t < k {
-        print_stage(file, layout, t);
-        t += 1;
+fn print_design(rt: &impl Print, design: &DesignFile<'_>) -> io::Result<()> {
+    let Head { m, s, k } = design.head;
+    println!(rt; "m = {m} bits, s = {s} shares, k = {k} stages")?;
+    println!(rt; "S ={}", Entries(design.box_table()))?;
+    for t in 0..k {
+        print_stage(rt, design, t)?;
+    }
+    Ok(())
+}
+
+// The verdict in numbers and in words.
+fn print_verdict(rt: &impl Print, outcome: Result<usize, Refusal>) -> io::Result<()> {
+    let verdict = Verdict::from(outcome);
+    match outcome {
+        Ok(_) => println!(rt; "verdict {verdict}: accepted"),
+        Err(refusal) => println!(rt; "verdict {verdict}: {}", InWords(refusal)),
     }
 }
 
-// The verdict in words, with its place and component.
-fn print_verdict(v: Verdict) {
-    print(b"verdict ");
-    print_number(v.reason);
-    print(b" ");
-    print_number(v.place);
-    print(b" ");
-    print_number(v.component);
-    print(b": ");
-    if 11 <= v.reason {
-        print(b"stage ");
-        print_number(v.place);
-        print(b", ");
+// The design, if the file reads, and the verdict.
+fn explain(rt: &impl Print, file: &[u8], workspace: &mut [u8]) -> io::Result<()> {
+    if let Ok(design) = design::read(file) {
+        print_design(rt, &design)?;
     }
-    if v.reason == 13 {
-        print(b"component ");
-        print_number(v.component);
-        print(b", ");
-    }
-    text::print_reason(1, v.reason);
-    if 1 <= v.reason {
-        if v.reason <= 7 {
-            print(b", at byte ");
-            print_number(v.place);
-        }
-    }
-    print(b"\n");
+    print_verdict(rt, checker::judge(file, workspace).outcome)
 }
 
-fn main() {
-    let mut buffer = [0u8; 32769];
-    let n = io::read_full(0, &mut buffer);
-    if 32768 < n {
-        print(b"verdict 18 0 0: ");
-        text::print_reason(1, 18);
-        print(b"\n");
-        return;
+fn main(rt: HostRuntime) -> io::Result<()> {
+    let mut file = Vec::new(rt.alloc());
+    rt.stdin()
+        .take(MOST_BYTES as u64 + 1)
+        .read_to_end(&mut file)?;
+    if file.len() > MOST_BYTES {
+        let refusal = Refusal {
+            reason: Reason::InputTooLong,
+            place: 0,
+            component: 0,
+        };
+        return print_verdict(&rt, Err(refusal));
     }
-    let file = &buffer[..n];
-    let layout = design::read(file);
-    if layout.reason == 0 {
-        print_design(file, layout);
-    }
-    // a bit for each sharing of the greatest share bits
-    let mut workspace = [0u8; 131072];
-    let judged = checker::judge(file, &mut workspace);
-    print_verdict(judged.verdict);
+    let mut workspace = vec![in rt.alloc(); 0u8; WORKSPACE]?;
+    explain(&rt, &file, &mut workspace)
 }

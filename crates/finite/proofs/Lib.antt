@@ -1,4 +1,4 @@
--- Laws of tests, counts, sums, sets, maps, faults and copying.
+-- Laws of tests, counts, sums, sets, maps and faults.
 pub mod Testing
 pub mod Counting
 pub mod Maps
@@ -8,4 +8,4 @@ pub mod Subsets
 pub mod Elements
 pub mod Faults
 pub mod Powers
-pub mod Copying
+pub mod Lists

@@ -1,7 +1,8 @@
-// The published operations. Each is a call of the layer below, with the same contract and no `requires`.
+// The published operations, without a `requires`. Each calls the layer below and turns its outcome into what C is answered, since C has no Result.
 #![tactic(auto)]
 
 ghost use Rattle.std.specs.Prelude.{◌≡◌, length};
+ghost use Rattle.reasons.specs.Numbers.{reason_of};
 ghost use Rattle.anf.specs.Transform.{transform_reason, transform_after};
 ghost use Rattle.threshold.specs.Running.{running};
 ghost use Rattle.checker.specs.Verdict.{workspace_after};
@@ -11,24 +12,28 @@ ghost use Rattle.joiner.specs.Joining.{joining, joined_after};
 ghost use Rattle.jestrunas.specs.Published.{read_answer};
 
 use checker::{Forecast, Judged, Verdict};
+use reasons::Reason;
 use records::Produced;
 use threshold::{FiveShares, Ran};
 
-// Five shares, the greatest number of them, by value; the unused ones are zero.
+// Five shares, the greatest number of them, by value; the unused ones are zero. A struct, as C passes no array by value.
 #[repr(C)]
 #[derive(Clone, Copy)]
 pub struct Shares {
     pub share: FiveShares,
 }
 
-// Reads a design file: the first fault and its place, or three zeros.
+// Reads a design file: the first fault and its place, or three zeros. Not by the `From` of a verdict, which has the number of stages where all is well.
 pub fn jestrunas_read(file: &[u8]) -> Verdict
     ensures { result ≡ read_answer file.now }
 {
-    let layout = design::read(file);
+    let (reason, place) = match design::read(file) {
+        Ok(_) => (0, 0),
+        Err(refused) => (refused.reason.number(), refused.place),
+    };
     Verdict {
-        reason: layout.reason,
-        place: layout.place,
+        reason,
+        place,
         component: 0,
     }
 }
@@ -37,7 +42,7 @@ pub fn jestrunas_read(file: &[u8]) -> Verdict
 pub fn jestrunas_forecast(file: &[u8]) -> Forecast
     ensures { result ≡ forecast file.now }
 {
-    checker::foresee(file)
+    Forecast::from(checker::foresee(file))
 }
 
 // The verdict on a design file, and its trials.
@@ -45,15 +50,14 @@ pub fn jestrunas_judge(file: &[u8], workspace: &mut [u8]) -> Judged
     ensures value { result ≡ judging file.now (length workspace.old) }
     ensures workspace_after { workspace.new ≡ workspace_after file.now workspace.old }
 {
-    checker::judge(file, workspace)
+    Judged::from(checker::judge(file, workspace))
 }
 
 // Runs the chain of a design file on five shares.
 pub fn jestrunas_run(file: &[u8], shares: Shares) -> Ran
     ensures { result ≡ running file.now shares.share }
 {
-    let given = shares.share;
-    threshold::run(file, given)
+    Ran::from(threshold::run(file, shares.share))
 }
 
 // Writes the direct sharing of a table.
@@ -61,7 +65,7 @@ pub fn jestrunas_produce(m: usize, s: usize, table: &[u8], output: &mut [u8]) ->
     ensures value { result ≡ producing m s table.now (length output.old) }
     ensures output_after { output.new ≡ output_after m s table.now output.old }
 {
-    producer::produce(m, s, table, output)
+    Produced::from(producer::produce(m, s, table, output))
 }
 
 // Joins two design files into one.
@@ -69,7 +73,17 @@ pub fn jestrunas_join(first: &[u8], second: &[u8], output: &mut [u8]) -> Produce
     ensures value { result ≡ joining first.now second.now (length output.old) }
     ensures output_after { output.new ≡ joined_after first.now second.now output.old }
 {
-    joiner::join(first, second, output)
+    Produced::from(joiner::join(first, second, output))
+}
+
+// The number of an outcome, 0 of success: for C, which has no Result.
+fn number(outcome: Result<(), Reason>) -> usize
+    ensures { result ≡ reason_of outcome }
+{
+    match outcome {
+        Ok(()) => 0,
+        Err(reason) => reason.number(),
+    }
 }
 
 // The coefficient words of a table, or the table of coefficient words.
@@ -77,5 +91,5 @@ pub fn jestrunas_transform(m: usize, input: &[u8], output: &mut [u8]) -> usize
     ensures value { result ≡ transform_reason m input.now (length output.old) }
     ensures output_after { output.new ≡ transform_after m input.now output.old }
 {
-    anf::transform(m, input, output)
+    number(anf::transform(m, input, output))
 }

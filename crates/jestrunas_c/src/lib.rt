@@ -1,4 +1,5 @@
-// The published operations, exported to C: each is that of `jestrunas` of its name, with the same contract and no `requires`.
+// The published operations, exported to C: each is that of `jestrunas` of its name, with the same contract and no `requires`. They stand here once more, since
+// functions are exported to C from a static library alone.
 #![tactic(auto)]
 
 ghost use Rattle.std.specs.Prelude.{◌≡◌, length};

@@ -1,33 +1,35 @@
--- The ways out of joining over plain values, each premise as the code has it: a and b are the layouts of the files f and g, r is what is answered. Each refusal is
--- a case of `JoiningExplained`; the file that is written part by part is the joined one, as the stages of a file stand in one piece.
+-- The ways out of joining the files f and g over plain values, each premise as the code has it. Each refusal is a case of `JoiningExplained`; the file that is
+-- written part by part is the joined one, as the stages of a file stand in one piece.
 -- Assumes nothing.
-use mathlib.Core.Path.{◌≡◌, sym, ap, ap₂, ◌∙◌}
+use mathlib.Core.Path.{◌≡◌, sym, ap, ap₂, ◌∙◌, subst}
+use mathlib.Core.Bool.{false}
 use mathlib.Core.List.{List, [], ◌∷◌, ◌++◌, map, append_assoc}
 use Prim.Native.Nat.{ℕ, ◌+◌, ◌≤◌, ◌<◌}
 use native.Mathlib.Omega.{arith}
 use lib.ListN.{length}
-use mir.Syntax.{w64}
-use mir.Val.{Fits}
 use Rattle.finite.specs.Faults.{first_fault}
 use Rattle.anf.specs.Tables.{entry}
 use Rattle.records.specs.Records.{join, a_record, end_record}
-use Rattle.records.specs.Writing.{writing_answer, writing_after}
-use Rattle.records.specs.Inside.Overwriting.{no_file}
+use Rattle.std.specs.Prelude.{Err}
+use Rattle.reasons.specs.declared.Reason.{Reason}
+use Rattle.reasons.specs.declared.Reason.TheVariants.{SharesDiffer, TooManyStages}
+use Rattle.reasons.specs.Numbers.{number}
+use Rattle.reasons.proofs.Numbers.{number_some}
+use Rattle.records.specs.Writing.{writing_answer, writing_after, produced_of}
 use Rattle.records.specs.declared.Produced.{Produced}
 use Rattle.records.proofs.Joined.{join_map_append}
 use Rattle.records.proofs.Producing as rules
-use Rattle.design.specs.Limits.{greatest_stages}
+use Rattle.design.specs.Limits.{greatest_stages, broken}
 use Rattle.design.specs.Design.{TableFits}
 use Rattle.design.specs.Encode.{stage_bytes, encode}
 use Rattle.design.specs.Reading.{meaning}
-use Rattle.design.specs.Layout.{layout_of}
-use Rattle.design.specs.Inside.Described.{Limits, Describes}
-use Rattle.design.specs.declared.Head.{Head}
-use Rattle.design.specs.declared.Layout.{Layout}
-use Rattle.design.proofs.Limits.{unbroken}
+use Rattle.design.specs.Heads.{laid_by}
+use Rattle.design.specs.Layout.{refused_layout, layout_of}
+use Rattle.design.specs.Inside.Described.{Describes}
+use Rattle.design.proofs.Limits.{bounds, unbroken}
 use Rattle.design.proofs.Answered as reader
 use Rattle.joiner.specs.Joining.{joined, joined_reason, joining, joined_after, Joinable, JoiningExplained, first_refused, second_refused, shares_differ, stages_exceed}
-use Rattle.joiner.specs.Inside.Parts.{front_of, file_of, room_reason, file_answer, file_after, Alike}
+use Rattle.joiner.specs.Inside.Parts.{front_of, file_of, room_reason, file_answer, file_after}
 use Rattle.joiner.proofs.Answers.{joined_explained, joinable_answered}
 
 -- ---- the answer and the output from the reason
@@ -42,114 +44,96 @@ pub answered : {f g out : List ℕ} {r : Produced} {after : List ℕ} → Answer
 unfolding joining joined_after
 answered a = record { value = a.kept.answer; output_after = a.kept.output }
 
-refuses : (f g out : List ℕ) (r : Produced) (k : ℕ) → r ≡ no_file k → 0 < k → JoiningExplained f g (length out) k → Answered f g out r out
-refuses f g out r k er p e = record { kept = rules.refuses _ (joined f g) out r k er p ((joined_explained f g (length out) k).1 e) }
+refuses : (f g out : List ℕ) (k : Reason) → JoiningExplained f g (length out) (number k) → Answered f g out (produced_of (Err k)) out
+refuses f g out k p = record { kept = rules.refused _ (joined f g) out k ((joined_explained f g (length out) (number k)).1 p) }
 
--- ---- `join`
+-- ---- `join`: one of the files does not read, with reason r; or they read as x and y, which are the same files
 
-module _ (f g out : List ℕ) (a : Layout) (ea : a ≡ layout_of f) where
-  pub first_unread : (a.reason ≡ 0 → ⊥) → (r : Produced) → r ≡ no_file a.reason → Answered f g out r out
-  first_unread n r er = refuses f g out r a.reason er (omega arith) (first_refused _ _ (reader.refuses f a ea n))
+module _ (f g out : List ℕ) (r : Reason) (p : ℕ) where
+  pub first_unread : refused_layout (number r) p ≡ layout_of f → Answered f g out (produced_of (Err r)) out
+  first_unread e = refuses f g out r (first_refused _ _ (reader.refuses f _ e (number_some r)))
 
-  pub second_unread : a.reason ≡ 0 → (b : Layout) → b ≡ layout_of g → (b.reason ≡ 0 → ⊥) → (r : Produced) → r ≡ no_file b.reason → Answered f g out r out
-  second_unread z b eb n r er =
-      refuses f g out r b.reason er (omega arith) (second_refused _ _ _ (reader.answers_described f a ea z).read (reader.refuses g b eb n))
+  pub second_unread : refused_layout (number r) p ≡ layout_of g → (x starts : List ℕ) (m s k : ℕ) → x ≡ f → Describes x (laid_by m s k starts)
+      → Answered f g out (produced_of (Err r)) out
+  second_unread e x starts m s k q d =
+      refuses f g out r (second_refused _ _ _ (subst (λ (z : List ℕ). Describes z (laid_by m s k starts)) q d).read (reader.refuses g _ e (number_some r)))
 
--- ---- `join_designs`
+module _ (f g x y : List ℕ) (p : x ≡ f) (q : y ≡ g) where
+  pub same_answer : (room : ℕ) (r : Produced) → r ≡ joining x y room → r ≡ joining f g room
+  same_answer room r e = e ∙ ap₂ (λ (a b : List ℕ). joining a b room) p q
 
-module _ (f g : List ℕ) (a b : Layout) (da : Describes f a) (db : Describes g b) where
-  -- equal numbers of the layouts are equal numbers of the designs
-  width_of : (meaning f).m ≡ (meaning g).m → a.head.m ≡ b.head.m
-  width_of e = (reader.described da).m ∙ e ∙ sym (reader.described db).m
+  pub same_output : (out after : List ℕ) → after ≡ joined_after x y out → after ≡ joined_after f g out
+  same_output out after e = e ∙ ap₂ (λ (a b : List ℕ). joined_after a b out) p q
 
-  shares_of : (meaning f).s ≡ (meaning g).s → a.head.s ≡ b.head.s
-  shares_of e = (reader.described da).s ∙ e ∙ sym (reader.described db).s
+-- ---- `join_designs`: the head of f has the numbers m, s and k, that of g the numbers w, v and n
 
-  pub widths_differ : (a.head.m ≡ b.head.m → ⊥) → (out : List ℕ) (r : Produced) → r ≡ no_file 19 → Answered f g out r out
-  widths_differ n out r er = refuses f g out r 19 er (omega arith) (shares_differ _ _ da.read db.read (λ p. n (width_of p.0)))
+module _ (f g xs ys : List ℕ) (m s k w v n : ℕ) (da : Describes f (laid_by m s k xs)) (db : Describes g (laid_by w v n ys)) where
+  one : reader.Readable f (laid_by m s k xs)
+  one = reader.described da
 
-  pub counts_differ : (a.head.s ≡ b.head.s → ⊥) → (out : List ℕ) (r : Produced) → r ≡ no_file 19 → Answered f g out r out
-  counts_differ n out r er = refuses f g out r 19 er (omega arith) (shares_differ _ _ da.read db.read (λ p. n (shares_of p.1)))
+  other : reader.Readable g (laid_by w v n ys)
+  other = reader.described db
 
-  pub stages_add : Fits w64 (a.head.k + b.head.k)
-  stages_add = record { fits = omega (arith, (reader.described da).bounds.k_high, (reader.described db).bounds.k_high) }
+  pub other_width : (m ≡ w → ⊥) → (out : List ℕ) → Answered f g out (produced_of (Err SharesDiffer)) out
+  other_width z out = refuses f g out SharesDiffer (shares_differ _ _ da.read db.read (λ p. z (one.m ∙ p.0 ∙ sym other.m)))
 
-  module _ (em : a.head.m ≡ b.head.m) (es : a.head.s ≡ b.head.s) where
-    pub too_many : greatest_stages < a.head.k + b.head.k → (out : List ℕ) (r : Produced) → r ≡ no_file 20 → Answered f g out r out
-    too_many h out r er =
-        let v = reader.described da in
-        let w = reader.described db in
-        refuses f g out r 20 er (omega arith)
-        (stages_exceed _ _ da.read db.read (sym v.m ∙ em ∙ w.m) (sym v.s ∙ es ∙ w.s) (omega (arith, ap₂ ◌+◌ v.k w.k)))
+  pub other_shares : (s ≡ v → ⊥) → (out : List ℕ) → Answered f g out (produced_of (Err SharesDiffer)) out
+  other_shares z out = refuses f g out SharesDiffer (shares_differ _ _ da.read db.read (λ p. z (one.s ∙ p.1 ∙ sym other.s)))
 
-    pub are_alike : a.head.k + b.head.k ≤ greatest_stages → Alike f a g b
-    are_alike h = record { first = da; second = db; width = em; shares = es; stages = h }
-
--- ---- `join_alike`
-
-module _ (f g : List ℕ) (a b : Layout) (p : Alike f a g b) where
-  one : reader.Readable f a
-  one = reader.described p.first
-
-  other : reader.Readable g b
-  other = reader.described p.second
-
-  stages_are : a.head.k + b.head.k ≡ (meaning f).k + (meaning g).k
+  stages_are : k + n ≡ (meaning f).k + (meaning g).k
   stages_are = ap₂ ◌+◌ one.k other.k
 
-  joinable : Joinable f g (meaning f) (meaning g)
-  joinable = record {
-    first = p.first.read;
-    second = p.second.read;
-    width = sym one.m ∙ p.width ∙ other.m;
-    shares = sym one.s ∙ p.shares ∙ other.s;
-    stages = omega (arith, stages_are, p.stages);
-  }
+  module _ (em : m ≡ w) (es : s ≡ v) where
+    width : (meaning f).m ≡ (meaning g).m
+    width = sym one.m ∙ em ∙ other.m
 
-  abbrev head_both : Head
-  head_both = record { m = a.head.m; s = a.head.s; k = a.head.k + b.head.k }
+    shares : (meaning f).s ≡ (meaning g).s
+    shares = sym one.s ∙ es ∙ other.s
 
-  pub head_within : Limits (record { m = a.head.m; s = a.head.s; k = a.head.k + b.head.k })
-  head_within =
-      let v = one.bounds in
-      unbroken _ _ _ v.m_low v.m_high v.s_low v.s_high v.bits (omega (arith, v.k_low)) p.stages
+    pub too_many : greatest_stages < k + n → (out : List ℕ) → Answered f g out (produced_of (Err TooManyStages)) out
+    too_many h out = refuses f g out TooManyStages (stages_exceed _ _ da.read db.read width shares (omega (arith, stages_are)))
 
-  pub first_table : (t : List ℕ) → t ≡ (meaning f).box → TableFits a.head.m t
-  first_table t e = rw (e, one.m) one.formed.box
+    pub head_within : k + n ≤ greatest_stages → broken m s (k + n) ≡ false
+    head_within few = let b = one.bounds in unbroken _ _ _ b.m_low b.m_high b.s_low b.s_high b.bits (omega (arith, b.k_low)) few
 
-  pub second_table : (u : List ℕ) → u ≡ (meaning g).box → TableFits a.head.m u
-  second_table u e = rw (e, p.width, other.m) other.formed.box
+    pub first_box : (t : List ℕ) → t ≡ (meaning f).box → TableFits m t
+    first_box t e = rw (e, one.m) one.formed.box
 
-  -- the parts that are written are those of the joined file
-  parts_joined : file_of head_both (meaning f).box (meaning g).box (join (map stage_bytes (meaning f).stages)) (join (map stage_bytes (meaning g).stages)) ≡ joined f g
-  unfolding file_of front_of joined encode
-  parts_joined =
-      let numbers = a_record 1 ((meaning f).m ∷ (meaning f).s ∷ ((meaning f).k + (meaning g).k) ∷ []) in
-      let box = a_record 2 (map (entry (meaning g).box) (meaning f).box) in
-      let stages = join (map stage_bytes (meaning f).stages) ++ join (map stage_bytes (meaning g).stages) in
-      rw (one.m, one.s, stages_are)
-      (append_assoc numbers box (stages ++ end_record)
-      ∙ ap (λ (x : List ℕ). numbers ++ (box ++ (x ++ end_record))) (sym (join_map_append stage_bytes (meaning f).stages (meaning g).stages)))
+    pub second_box : (t : List ℕ) → t ≡ (meaning g).box → TableFits m t
+    second_box t e = rw (e, em, other.m) other.formed.box
 
-  -- and only the room is left to be tested
-  room_left : (room : ℕ) → joined_reason f g room ≡ room_reason room (joined f g)
-  unfolding first_fault
-  room_left room = joinable_answered f g (meaning f) (meaning g) joinable room
+    module _ (within : broken m s (k + n) ≡ false) where
+      joinable : Joinable f g (meaning f) (meaning g)
+      joinable = record { first = da.read; second = db.read; width = width; shares = shares; stages = omega (arith, stages_are, (bounds m s (k + n) within).k_high) }
 
-  module _ (t u first second : List ℕ) (et : t ≡ (meaning f).box) (eu : u ≡ (meaning g).box) (ex : first ≡ join (map stage_bytes (meaning f).stages))
-      (ey : second ≡ join (map stage_bytes (meaning g).stages)) where
-    file_is : file_of head_both t u first second ≡ joined f g
-    file_is = rw (et, eu, ex, ey) parts_joined
+      -- the parts that are written are those of the joined file
+      parts_joined : file_of m s (k + n) (meaning f).box (meaning g).box (join (map stage_bytes (meaning f).stages)) (join (map stage_bytes (meaning g).stages)) ≡ joined f g
+      unfolding file_of front_of joined encode
+      parts_joined =
+          let numbers = a_record 1 ((meaning f).m ∷ (meaning f).s ∷ ((meaning f).k + (meaning g).k) ∷ []) in
+          let box = a_record 2 (map (entry (meaning g).box) (meaning f).box) in
+          let stages = join (map stage_bytes (meaning f).stages) ++ join (map stage_bytes (meaning g).stages) in
+          rw (one.m, one.s, stages_are)
+          (append_assoc numbers box (stages ++ end_record)
+          ∙ ap (λ (x : List ℕ). numbers ++ (box ++ (x ++ end_record))) (sym (join_map_append stage_bytes (meaning f).stages (meaning g).stages)))
 
-    reason_is : (room : ℕ) → room_reason room (file_of head_both t u first second) ≡ joined_reason f g room
-    reason_is room = ap (room_reason room) file_is ∙ sym (room_left room)
+      -- and only the room is left to be tested
+      room_left : (room : ℕ) → joined_reason f g room ≡ room_reason room (joined f g)
+      unfolding first_fault
+      room_left room = joinable_answered f g (meaning f) (meaning g) joinable room
 
-    pub joins_answer : (room : ℕ) (r : Produced) → r ≡ file_answer room (file_of (record { m = a.head.m; s = a.head.s; k = a.head.k + b.head.k }) t u first second)
-        → r ≡ joining f g room
-    unfolding file_answer joining
-    joins_answer room r er = er ∙ ap₂ writing_answer (reason_is room) file_is
+      module _ (t u first second : List ℕ) (et : t ≡ (meaning f).box) (eu : u ≡ (meaning g).box) (ex : first ≡ join (map stage_bytes (meaning f).stages))
+          (ey : second ≡ join (map stage_bytes (meaning g).stages)) where
+        file_is : file_of m s (k + n) t u first second ≡ joined f g
+        file_is = rw (et, eu, ex, ey) parts_joined
 
-    pub joins_output : (out after : List ℕ) → after ≡ file_after out (file_of (record { m = a.head.m; s = a.head.s; k = a.head.k + b.head.k }) t u first second)
-        → after ≡ joined_after f g out
-    unfolding file_after joined_after
-    joins_output out after ew = ew ∙ ap₂ (λ (k : ℕ) (x : List ℕ). writing_after k x out) (reason_is (length out)) file_is
+        reason_is : (room : ℕ) → room_reason room (file_of m s (k + n) t u first second) ≡ joined_reason f g room
+        reason_is room = ap (room_reason room) file_is ∙ sym (room_left room)
+
+        pub joins_answer : (room : ℕ) (r : Produced) → r ≡ file_answer room (file_of m s (k + n) t u first second) → r ≡ joining f g room
+        unfolding file_answer joining
+        joins_answer room r er = er ∙ ap₂ writing_answer (reason_is room) file_is
+
+        pub joins_output : (out after : List ℕ) → after ≡ file_after out (file_of m s (k + n) t u first second) → after ≡ joined_after f g out
+        unfolding file_after joined_after
+        joins_output out after ew = ew ∙ ap₂ (λ (i : ℕ) (x : List ℕ). writing_after i x out) (reason_is (length out)) file_is

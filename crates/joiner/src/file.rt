@@ -1,96 +1,72 @@
-// A joined file: its length, and writing it if it fits.
-ghost use Rattle.std.specs.Prelude.{◌≡◌, ◌++◌, map, ◌+◌, ◌≤◌, length};
+// A joined file: what it is made of, its length, and writing it if it fits.
+ghost use Rattle.std.specs.Prelude.{◌≡◌, map, ◌+◌, ◌≤◌, length};
 ghost use Rattle.anf.specs.Tables.{entry};
 ghost use Rattle.records.specs.Records.{a_record};
-ghost use Rattle.records.specs.Inside.Overwriting.{overwrite};
-ghost use Rattle.design.specs.Limits.{greatest_points};
-ghost use Rattle.joiner.specs.Inside.Parts.{Through, Boxes, front_of, file_of, size_within, file_answer, file_after};
+ghost use Rattle.records.specs.Inside.Writes.{Writes};
+ghost use Rattle.joiner.specs.Inside.Parts.{Through, Boxes, size_within, file_answer, file_after};
 
 use design::Head;
-use finite::wide;
-use records::{Produced, no_file, put_bytes, put_end, put_head, put_numbers, record_size};
+use reasons::Reason;
+use records::{Kind, Writer, record_size};
 
-// The length of a joined file whose box has so many entries and whose stages take `first` and `second` bytes, however many; or 0 where it exceeds `room`.
-fn size_within(room: usize, entries: usize, first: usize, second: usize) -> usize
-    requires { entries ≤ greatest_points }
-    ensures { result ≡ size_within room (15 + entries + first + second) }
-{
-    let around = record_size(3) + record_size(entries) + record_size(0);
-    if room < around {
-        return 0;
-    }
-    if room - around < first {
-        return 0;
-    }
-    if room - around - first < second {
-        return 0;
-    }
-    around + first + second
+// What a joined file is made of: its head, the boxes, of which the first is sent through the second, and the records of the stages of both.
+#[derive(Clone, Copy)]
+pub struct Parts<'a> {
+    pub head: Head,
+    pub first_box: &'a [u8],
+    pub second_box: &'a [u8],
+    pub first_stages: &'a [u8],
+    pub second_stages: &'a [u8],
+    ghost boxes: { Boxes head.m first_box.now second_box.now },
 }
 
-// Writes the record of the box, each entry of `t` sent through `u`, and answers where the next starts.
-fn put_box(out: &mut [u8], at: usize, t: &[u8], u: &[u8]) -> usize
-    requires { Through t.now u.now × (at + 4 + length t.now ≤ length out.old) }
-    ensures value { result ≡ at + 4 + length t.now }
-    ensures out_after { out.new ≡ overwrite out.old at (a_record 2 (map (entry u.now) t.now)) }
-{
-    put_head(out, at, t.len(), 2);
-    let mut x: usize = 0;
-    while x < t.len() {
-        let y = wide(t[x]);
-        out[at + 4 + x] = u[y];
-        x += 1;
+impl Parts<'_> {
+    ghost use Rattle.records.specs.Writing.{produced_of};
+    ghost use Rattle.joiner.specs.Inside.Made.{made};
+
+    // The length of the file, if it is within `room`.
+    fn length_within(&self, room: usize) -> Option<usize>
+        ensures { result ≡ size_within room (length (made self.now)) }
+    {
+        let around = record_size(3) + record_size(self.first_box.len()) + record_size(0);
+        let length = around
+            .checked_add(self.first_stages.len())?
+            .checked_add(self.second_stages.len())?;
+        (length <= room).then_some(length)
     }
-    at + record_size(t.len())
-}
 
-// Writes the records before the stages, the head and the box, and answers where the stages start.
-fn put_front(out: &mut [u8], h: Head, t: &[u8], u: &[u8]) -> usize
-    requires { Boxes h t.now u.now × (length (front_of h t.now u.now) ≤ length out.old) }
-    ensures value { result ≡ length (front_of h t.now u.now) }
-    ensures out_after { out.new ≡ overwrite out.old 0 (front_of h t.now u.now) }
-{
-    let at = put_numbers(out, h.m, h.s, h.k);
-    put_box(out, at, t, u)
-}
-
-// Writes the records of the stages of both, and answers where the next starts.
-fn put_stages(out: &mut [u8], at: usize, first: &[u8], second: &[u8]) -> usize
-    requires { at + length (first.now ++ second.now) ≤ length out.old }
-    ensures value { result ≡ at + length (first.now ++ second.now) }
-    ensures out_after { out.new ≡ overwrite out.old at (first.now ++ second.now) }
-{
-    let second_at = put_bytes(out, at, first);
-    put_bytes(out, second_at, second)
-}
-
-// Writes a joined file: the head `h`; the box, that of the first, `t`, sent through that of the second, `u`; the records of the stages of both; the end.
-fn put_file(out: &mut [u8], h: Head, t: &[u8], u: &[u8], first: &[u8], second: &[u8])
-    requires { Boxes h t.now u.now × (length (file_of h t.now u.now first.now second.now) ≤ length out.old) }
-    ensures { out.new ≡ overwrite out.old 0 (file_of h t.now u.now first.now second.now) }
-{
-    let stages_at = put_front(out, h, t, u);
-    let end_at = put_stages(out, stages_at, first, second);
-    put_end(out, end_at);
-}
-
-// Writes it if it fits, which is known before a byte is written.
-pub fn write_file(
-    h: Head,
-    t: &[u8],
-    u: &[u8],
-    first: &[u8],
-    second: &[u8],
-    output: &mut [u8],
-) -> Produced
-    requires { Boxes h t.now u.now }
-    ensures value { result ≡ file_answer (length output.old) (file_of h t.now u.now first.now second.now) }
-    ensures output_after { output.new ≡ file_after output.old (file_of h t.now u.now first.now second.now) }
-{
-    let length = size_within(output.len(), t.len(), first.len(), second.len());
-    if length == 0 {
-        return no_file(17);
+    // Writes the file.
+    fn put(&self, writer: &mut Writer<'_>)
+        requires { writer.old.at + length (made self.now) ≤ length writer.old.out.now }
+        ensures { Writes writer.old writer.new (made self.now) }
+    {
+        writer.numbers(self.head.m, self.head.s, self.head.k);
+        put_box(writer, self.first_box, self.second_box);
+        writer.bytes(self.first_stages);
+        writer.bytes(self.second_stages);
+        writer.end();
     }
-    put_file(output, h, t, u, first, second);
-    Produced { reason: 0, length }
+
+    // Writes the file if it fits, which is known before a byte is written; and its length.
+    pub fn write(&self, output: &mut [u8]) -> Result<usize, Reason>
+        ensures value { produced_of result ≡ file_answer (length output.old) (made self.now) }
+        ensures output_after { output.new ≡ file_after output.old (made self.now) }
+    {
+        let Some(length) = self.length_within(output.len()) else {
+            return Err(Reason::OutputTooShort);
+        };
+        self.put(&mut Writer::new(output));
+        Ok(length)
+    }
+}
+
+// Writes the record of the box, each entry of `t` sent through `u`.
+fn put_box(writer: &mut Writer<'_>, t: &[u8], u: &[u8])
+    requires { Through t.now u.now × (writer.old.at + 4 + length t.now ≤ length writer.old.out.now) }
+    ensures { Writes writer.old writer.new (a_record 2 (map (entry u.now) t.now)) }
+{
+    writer.head(t.len(), Kind::Table);
+    for &x in t {
+        writer.bytes(&[u[usize::from(x)]]);
+    }
 }

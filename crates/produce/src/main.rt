@@ -2,37 +2,43 @@
 // A refusal is told on standard error, and nothing is written.
 #![tactic(auto)]
 
-// What is wrong, on standard error.
-fn complain(reason: usize) {
-    io::print_decimal(2, reason as u64);
-    io::write_all(2, b": ");
-    text::print_reason(2, reason);
-    io::write_all(2, b"\n");
-}
+use std::io;
+use std::io::{Read, Write};
+use text::Line;
 
-fn main() {
-    let mut buffer = [0u8; 4096];
-    let n = io::read_full(0, &mut buffer);
-    if n == 0 {
-        io::write_all(2, b"a line is wanted: m s TABLE\n");
-        return;
+// The most bytes of input that are read.
+const MOST_INPUT: u64 = 4096;
+
+// The most entries of a table that are read: one more than a table has.
+const MOST_ENTRIES: usize = 65;
+
+// The most bytes of a design file.
+const MOST_BYTES: usize = 32768;
+
+fn main(rt: HostRuntime) -> io::Result<()> {
+    let mut input = Vec::new(rt.alloc());
+    rt.stdin().take(MOST_INPUT).read_to_end(&mut input)?;
+    if input.is_empty() {
+        return eprintln!(rt; "a line is wanted: m s TABLE");
     }
-    let mut table = [0u8; 65];
-    let r = text::read_request(&buffer[..n], 0, &mut table);
-    if !r.good {
-        io::write_all(
-            2,
-            b"this is no line: m s TABLE, each entry one hexadecimal digit, or two where m is above 4\n",
+    let mut line = Line::new(&input);
+    let mut table = [0u8; MOST_ENTRIES];
+    let request = line.request(&mut table);
+    if !line.is_at_end() {
+        return eprintln!(rt;
+            "this is no line: m s TABLE, each entry one hexadecimal digit, or two where m is above 4"
         );
-        return;
     }
-    let count = r.count;
-    let mut output = [0u8; 32768];
-    let p = producer::produce(r.m, r.s, &table[..count], &mut output);
-    if p.reason != 0 {
-        complain(p.reason);
-        return;
+    let mut output = vec![in rt.alloc(); 0u8; MOST_BYTES]?;
+    let table = &table[..request.count];
+    match producer::produce(request.m, request.s, table, &mut output) {
+        Ok(length) => {
+            output.truncate(length);
+            rt.stdout().write_all(&output)
+        }
+        Err(reason) => {
+            let number = reason.number();
+            eprintln!(rt; "{number}: {reason}")
+        }
     }
-    let length = p.length;
-    io::write_all(1, &output[..length]);
 }

@@ -1,12 +1,11 @@
 -- What producing answers and leaves, one law for each way out.
-use mathlib.Core.Path.{◌≡◌, sym, ap, ap₂, ◌∙◌, subst}
-use mathlib.Core.Logic.{◌≢◌, ⊎_elim}
+use mathlib.Core.Path.{◌≡◌, sym, ap, ap₂, ◌∙◌}
 use mathlib.Core.Bool.{Bool, true, false, not, ◌&&◌}
 use mathlib.Core.List.{List, [], ◌∷◌, ◌++◌}
-use Prim.Native.Nat.{ℕ, ◌+◌, ◌-◌, ◌*◌, ◌/◌, ◌%◌, ◌^◌, ◌≤◌, ◌<◌}
+use Prim.Native.Nat.{ℕ, ◌*◌, ◌/◌, ◌%◌, ◌^◌, ◌≤◌, ◌<◌}
 use native.Mathlib.Omega.{arith}
 use lib.Pow.{pow_mono}
-use lib.Dec.{eqb, ltb}
+use lib.Dec.{eqb, ltb, leb}
 use lib.ListN.{length, get_or, take, drop}
 use lib.Seq.{take_at, get_or-take}
 use borrow.Author.Tests.{eq-eqb, ne_eqb, lt-ltb, le-ltb, le-leb, lt-leb}
@@ -14,23 +13,42 @@ use Rattle.finite.specs.Sets.{has}
 use Rattle.finite.specs.Maps.{repeats}
 use Rattle.finite.specs.Faults.{first_fault}
 use Rattle.finite.proofs.Faults.{fault_here, fault_past, fault_none}
-use Rattle.finite.proofs.Testing.{any_congr, tabulate_congr, tabulate_length, tabulate_at, not_true_false, pick_true, pick_false, true_or_false}
+use Rattle.finite.proofs.Testing.{any_congr, tabulate_congr, tabulate_length, tabulate_at, pick_true}
 use Rattle.anf.specs.NormalForm.{subset_sum, degree}
 use Rattle.anf.specs.Tables.{entries_below, entry}
 use Rattle.anf.specs.Inside.Words.{words_degree}
 use Rattle.anf.specs.Transform.{transform_after, transformed}
 use Rattle.anf.proofs.Passing.{passing_congr}
 use Rattle.anf.proofs.Answers.{input_answer, transformed_degree}
-use Rattle.design.specs.Limits.{greatest_terms, broken, checked, head_answer}
-use Rattle.records.specs.Inside.Overwriting.{overwrite, no_file}
+use Rattle.design.specs.Limits.{broken}
+use Rattle.std.specs.Prelude.{Ok, Err}
+use Rattle.reasons.specs.Numbers.{number}
+use Rattle.reasons.specs.declared.Reason.{Reason}
+use Rattle.records.specs.Writing.{produced_of}
+use Rattle.records.specs.Inside.Overwriting.{overwrite}
 use Rattle.design.proofs.Limits.{bounds, head_number}
 use Rattle.records.proofs.Producing as rules
 use Rattle.direct.specs.Direct.{is_product, chosen, component_for, stands, direct_list, direct_lists, direct_stage, direct_sharing}
 use Rattle.producer.specs.Producing.{produced, produced_reason, producing, output_after}
-use Rattle.direct.specs.Inside.Expanding.{Follows, Gathers, rule_tables}
-use Rattle.producer.specs.Inside.Filing.{TableTested, DegreeTested, one_stage_file}
+use Rattle.producer.specs.Inside.Filing.{one_stage_file}
 use Rattle.records.specs.declared.Produced.{Produced}
-use Rattle.direct.proofs.Gathering.{rule_follows}
+
+-- ---- what is known after the tests
+
+-- every test before that of the degree has passed
+pub record TableTested (m s : ℕ) (t : List ℕ) (room : ℕ) : Type 0 where
+  pub limits : broken m s 1 ≡ false
+  pub size : length t ≡ 2 ^ m
+  pub below : entries_below t (2 ^ m) ≡ true
+  pub passed : produced_reason m s t room ≡ first_fault ((leb s (degree m (entry t)), 16) ∷ (ltb room (length (produced m s t)), 17) ∷ []) 0
+
+-- every test but the last has passed, and words are the coefficient words of the table
+pub record DegreeTested (m s : ℕ) (t words : List ℕ) (room : ℕ) : Type 0 where
+  pub limits : broken m s 1 ≡ false
+  pub size : length t ≡ 2 ^ m
+  pub passed : produced_reason m s t room ≡ first_fault ((ltb room (length (produced m s t)), 17) ∷ []) 0
+  pub words_all : 2 ^ m ≤ length words
+  pub coefficients : (u : ℕ) → u < 2 ^ m → get_or words u 0 ≡ subset_sum m (entry t) u
 
 -- ---- the answer from the reason
 
@@ -45,25 +63,19 @@ unfolding producing output_after
 answered a = record { value = a.kept.answer; output_after = a.kept.output }
 
 module _ (m s : ℕ) (t out : List ℕ) where
-  pub refuses : (r : Produced) (k : ℕ) → r ≡ no_file k → 0 < k → produced_reason m s t (length out) ≡ k → Answered m s t out r out
-  refuses r k er p e = record { kept = rules.refuses _ (produced m s t) out r k er p e }
+  pub refuses : (k : Reason) → produced_reason m s t (length out) ≡ number k → Answered m s t out (produced_of (Err k)) out
+  refuses k e = record { kept = rules.refused _ (produced m s t) out k e }
 
   pub succeeds : (size : ℕ) (after : List ℕ) → size ≡ length (produced m s t) → produced_reason m s t (length out) ≡ 0 → after ≡ overwrite out 0 (produced m s t)
-      → Answered m s t out (record { reason = 0; length = size }) after
-  succeeds size after es e w = record { kept = rules.succeeds _ (produced m s t) out size after es e w }
+      → Answered m s t out (produced_of (Ok size)) after
+  succeeds size after es e w = record { kept = rules.written _ (produced m s t) out size after es e w }
 
 -- ---- the reasons in their order
 
-pub head_within : (m s : ℕ) → (head_answer (checked m s 1)).0 ≡ 0 → broken m s 1 ≡ false
-head_within m s e = not_true_false (broken m s 1) (λ b. let z : 4 ≡ 0 = sym (head_number m s 1 ∙ pick_true (broken m s 1) 4 0 b) ∙ e in omega arith)
-
-head_broken : (m s : ℕ) → (head_answer (checked m s 1)).0 ≢ 0 → broken m s 1 ≡ true
-head_broken m s n = ⊎_elim (λ t. t) (λ f. absurd (n (head_number m s 1 ∙ pick_false (broken m s 1) 4 0 f))) (true_or_false (broken m s 1))
-
 module _ (m s : ℕ) (t : List ℕ) (room : ℕ) where
-  pub reason_head : (head_answer (checked m s 1)).0 ≢ 0 → produced_reason m s t room ≡ (head_answer (checked m s 1)).0
+  pub reason_head : broken m s 1 ≡ true → produced_reason m s t room ≡ 4
   unfolding produced_reason
-  reason_head n = fault_here _ _ _ 0 (head_broken m s n)
+  reason_head b = fault_here _ _ _ 0 b ∙ head_number m s 1 ∙ pick_true (broken m s 1) 4 0 b
 
   module _ (b : broken m s 1 ≡ false) where
     pub reason_size : (length t ≡ 2 ^ m → ⊥) → produced_reason m s t room ≡ 3
@@ -123,10 +135,9 @@ module _ (m s : ℕ) (t : List ℕ) (room : ℕ) (p : TableTested m s t room) (o
   words_room = omega (arith, pow_mono (bounds m s 1 p.limits).m_high)
 
   -- what the code finds for the degree
-  pub found_degree : words_degree (take (length t - 0) words) ≡ degree m (entry t)
-  found_degree =
-      let k : length t - 0 ≡ 2 ^ m = omega (arith, p.size) in
-      ap₂ (λ (x : ℕ) (y : List ℕ). words_degree (take x y)) k w ∙ words_degree_is m s t out p.limits p.size p.below words_room
+  pub found_degree : (n : ℕ) → n ≡ 2 ^ m → words_degree (take n words) ≡ degree m (entry t)
+  found_degree n e =
+      ap₂ (λ (x : ℕ) (y : List ℕ). words_degree (take x y)) e w ∙ words_degree_is m s t out p.limits p.size p.below words_room
 
   pub found_ready : degree m (entry t) < s → length words ≡ length out → DegreeTested m s t words room
   found_ready d l = record {
@@ -150,25 +161,8 @@ module _ (m s : ℕ) (t words : List ℕ) (room : ℕ) (r : DegreeTested m s t w
   unfolding one_stage_file produced direct_sharing direct_stage
   file_is = ap (one_stage_file m s t) (lists_congr m s (λ u. get_or words u 0) (subset_sum m (entry t)) r.coefficients)
 
-  pub ready_gathers : (rule : List ℕ) (size : ℕ) → Follows s rule → greatest_terms ≤ size → Gathers rule m s (length words) size
-  ready_gathers rule size f g = record { limits = r.limits; follows = f; words_all = r.words_all; room = g }
-
   pub short : room < length (produced m s t) → produced_reason m s t room ≡ 17
   short l = r.passed ∙ fault_here _ 17 _ 0 (lt-ltb _ _ l)
 
   pub enough : length (produced m s t) ≤ room → produced_reason m s t room ≡ 0
   enough l = r.passed ∙ fault_past _ 17 _ 0 (le-ltb _ _ l) ∙ fault_none 0
-
--- ---- the part of the rule's tables
-
-pub sets_least : (s : ℕ) → 3 ≤ s → 8 ≤ 2 ^ s
-sets_least s h = pow_mono h
-
-pub sets_most : (s : ℕ) → s ≤ 5 → 2 ^ s ≤ 32
-sets_most s h = pow_mono h
-
-pub rule_part : (s n : ℕ) (tables : List ℕ) → 3 ≤ s → s ≤ 5 → n ≡ 2 ^ s → tables ≡ rule_tables → Follows s (take (n - 8 + n - (n - 8)) (drop (n - 8) tables))
-rule_part s n tables a b e t =
-    let k : 8 ≤ 2 ^ s = sets_least s a in
-    let q : 2 ^ s - 8 + 2 ^ s - (2 ^ s - 8) ≡ 2 ^ s = omega arith in
-    rw (t, e) (subst (λ (x : ℕ). Follows s (take x (drop (2 ^ s - 8) rule_tables))) (sym q) (rule_follows s a b))

@@ -26,8 +26,7 @@ use Rattle.threshold.specs.Stages.{component, Correct, NonComplete}
 use Rattle.threshold.specs.Chain.{chained}
 use Rattle.direct.specs.Direct.{direct_stage, direct_sharing, Shareable, Box}
 use Rattle.producer.specs.Producing.{produced, produced_reason, Succeeds, output_after}
-use Rattle.producer.specs.Inside.Filing.{TableTested}
-use Rattle.producer.proofs.Answering.{table_tested, reason_degree, reason_last}
+use Rattle.producer.proofs.Answering.{TableTested, table_tested, reason_degree, reason_last}
 use Rattle.direct.proofs.Stage.{direct_correct, direct_non_complete}
 use Rattle.direct.proofs.Formed.{sharing_formed}
 use Rattle.direct.proofs.Shareable.{shareable_low, low_shareable}

@@ -1,6 +1,6 @@
 -- The records of the lists of the direct sharing, one behind the other: how long they are, and that each that is written makes one more of them. And the
 -- file of one stage: its records, and how long it is.
-use mathlib.Core.Path.{◌≡◌, sym, ap, ap₂, ◌∙◌}
+use mathlib.Core.Path.{◌≡◌, sym, ap, ◌∙◌, subst}
 use mathlib.Core.List.{List, [], ◌∷◌, ◌++◌, append_assoc, append-nil}
 use Prim.Native.Nat.{ℕ, ◌+◌, ◌*◌, ◌/◌, ◌%◌, ◌≤◌, ◌<◌}
 use native.Mathlib.Omega.{arith}
@@ -8,9 +8,11 @@ use lib.ListN.{length, get_or, take, length-append}
 use Rattle.finite.proofs.Testing.{tabulate_at, tabulate_length}
 use Rattle.records.specs.Records.{join, a_record, list_record, end_record}
 use Rattle.design.specs.Encode.{stage_bytes, encode}
-use Rattle.records.specs.Inside.Overwriting.{overwrite, list_records}
-use Rattle.records.proofs.Overwriting.{overwrite_append}
-use Rattle.records.proofs.Putting.{list_record_length, records_more, records_all, records_within}
+use Rattle.records.specs.Inside.Overwriting.{list_records}
+use Rattle.records.specs.Inside.Writes.{Writes}
+use Rattle.records.specs.declared.writer.Writer.{Writer}
+use Rattle.records.proofs.ListRecords.{list_record_length, records_none, records_more, records_all, records_within}
+use Rattle.records.proofs.Writes.{room_left, writes_then, nothing_written}
 use Rattle.direct.specs.Direct.{direct_list, direct_lists}
 use Rattle.producer.specs.Inside.Filing.{table_records, one_stage_file}
 
@@ -32,11 +34,12 @@ module _ (m s : ℕ) (words : ℕ → ℕ) where
 
   -- how many bytes the first i lists take
   module _ (i size : ℕ) (e : size ≡ length (list_records (take i (direct_lists m s words)))) where
-    pub size_more : i < m * s → (count : ℕ) → count ≡ length (direct_list m s words (i / m) (i % m)) → (r : ℕ) → r ≡ 4 + 4 * count
+    pub size_more : i < m * s → (l : List ℕ) (count : ℕ) → l ≡ direct_list m s words (i / m) (i % m) → count ≡ length l → (r : ℕ) → r ≡ 4 + 4 * count
         → size + r ≡ length (list_records (take (i + 1) (direct_lists m s words)))
-    size_more h count ce r re =
+    size_more h l count le ce r re =
         omega (
           arith,
+          ap length le,
           ap length (records_more (direct_lists m s words) i (omega (arith, direct_count))),
           length-append (list_records (take i (direct_lists m s words))) (list_record (get_or (direct_lists m s words) i [])),
           list_record_length (get_or (direct_lists m s words) i []),
@@ -46,44 +49,33 @@ module _ (m s : ℕ) (words : ℕ → ℕ) where
     pub size_all : i ≤ m * s → m * s ≤ i → size ≡ length (list_records (direct_lists m s words))
     size_all a b = e ∙ ap length (all_taken i a b)
 
-  -- where the next list starts
-  module _ (from at i : ℕ) (ae : at ≡ from + length (list_records (take i (direct_lists m s words)))) where
-    pub at_more : i < m * s → (ts : List ℕ) → ts ≡ direct_list m s words (i / m) (i % m) → (at' : ℕ) → at' ≡ at + length (list_record ts)
-        → at' ≡ from + length (list_records (take (i + 1) (direct_lists m s words)))
-    at_more h ts te at' e =
-        omega (
-          arith,
-          ap length (records_more (direct_lists m s words) i (omega (arith, direct_count))),
-          length-append (list_records (take i (direct_lists m s words))) (list_record (get_or (direct_lists m s words) i [])),
-          ap (λ (x : List ℕ). length (list_record x)) (te ∙ sym (direct_at i h)),
-        )
+  -- l is list i, given as a slice
+  module _ (i : ℕ) (h : i < m * s) (l slice : List ℕ) (e : l ≡ direct_list m s words (i / m) (i % m)) (q : slice ≡ l) where
+    slice_is : slice ≡ get_or (direct_lists m s words) i []
+    slice_is = q ∙ e ∙ sym (direct_at i h)
 
-    pub at_all : i ≤ m * s → m * s ≤ i → at ≡ from + length (list_records (direct_lists m s words))
-    at_all a b = ae ∙ ap (λ (l : List ℕ). from + length l) (all_taken i a b)
+    -- w is the writer at first, with room for all lists, w₁ after the first i, w₂ after one more
+    module _ (w w₁ : Writer) (r : w.at + length (list_records (direct_lists m s words)) ≤ length w.out.now)
+        (g : Writes w w₁ (list_records (take i (direct_lists m s words)))) where
+      within : length (list_records (take i (direct_lists m s words))) + length (list_record slice) ≤ length (list_records (direct_lists m s words))
+      within = rw slice_is (records_within (direct_lists m s words) i (omega (arith, direct_count)))
 
-    -- o₀ is the output at first, with room for all lists, o that after the first i lists, o' after one more
-    module _ (o₀ : List ℕ) (k : from + length (list_records (direct_lists m s words)) ≤ length o₀) (o : List ℕ) where
-      pub list_room : i < m * s → length o ≡ length o₀ → (count : ℕ) → count ≡ length (direct_list m s words (i / m) (i % m)) → at + 4 + 4 * count ≤ length o
-      list_room h e count ce =
-          omega (
-            arith,
-            records_within (direct_lists m s words) i (omega (arith, direct_count)),
-            list_record_length (get_or (direct_lists m s words) i []),
-            ap length (direct_at i h),
-          )
+      pub list_room : w₁.at + 4 + 4 * length slice ≤ length w₁.out.now
+      list_room = omega (arith, room_left w w₁ _ g (length (list_record slice)) (omega (arith, within)), list_record_length slice)
 
-      pub lists_more : i < m * s → o ≡ overwrite o₀ from (list_records (take i (direct_lists m s words))) → (ts : List ℕ) → ts ≡ direct_list m s words (i / m) (i % m)
-          → (o' : List ℕ) → o' ≡ overwrite o at (list_record ts) → o' ≡ overwrite o₀ from (list_records (take (i + 1) (direct_lists m s words)))
-      lists_more h oe ts te o' e =
-          e
-          ∙ ap₂ (λ (x : List ℕ) (y : ℕ). overwrite x y (list_record ts)) oe ae
-          ∙ overwrite_append o₀ from (list_records (take i (direct_lists m s words))) (omega arith) (list_record ts)
-          ∙ ap (λ (x : List ℕ). overwrite o₀ from (list_records (take i (direct_lists m s words)) ++ list_record x)) (te ∙ sym (direct_at i h))
-          ∙ ap (overwrite o₀ from) (sym (records_more (direct_lists m s words) i (omega (arith, direct_count))))
+      pub lists_more : (w₂ : Writer) → Writes w₁ w₂ (list_record slice) → Writes w w₂ (list_records (take (i + 1) (direct_lists m s words)))
+      lists_more w₂ g₂ =
+          subst (Writes w w₂)
+          (ap (λ (x : List ℕ). list_records (take i (direct_lists m s words)) ++ list_record x) slice_is
+          ∙ sym (records_more (direct_lists m s words) i (omega (arith, direct_count))))
+          (writes_then w w₁ _ g w₂ _ g₂ (omega arith))
 
-  pub lists_all : (o₀ o : List ℕ) (from i : ℕ) → i ≤ m * s → m * s ≤ i → o ≡ overwrite o₀ from (list_records (take i (direct_lists m s words)))
-      → o ≡ overwrite o₀ from (list_records (direct_lists m s words))
-  lists_all o₀ o from i a b oe = oe ∙ ap (overwrite o₀ from) (all_taken i a b)
+  pub no_list : (w : Writer) → Writes w w (list_records (take 0 (direct_lists m s words)))
+  no_list w = subst (Writes w w) (sym (records_none (direct_lists m s words))) (nothing_written w)
+
+  pub lists_all : (w w₁ : Writer) (i : ℕ) → i ≤ m * s → m * s ≤ i → Writes w w₁ (list_records (take i (direct_lists m s words)))
+      → Writes w w₁ (list_records (direct_lists m s words))
+  lists_all w w₁ i a b g = subst (Writes w w₁) (all_taken i a b) g
 
 -- ---- the file
 

@@ -1,95 +1,75 @@
-// The file of a direct sharing: its length, and writing it.
-ghost use Rattle.std.specs.Prelude.{◌≡◌, false, ◌+◌, ◌^◌, ◌≤◌, length};
-ghost use Rattle.design.specs.Limits.{broken};
-ghost use Rattle.records.specs.Inside.Overwriting.{overwrite, list_records};
-ghost use Rattle.direct.specs.Inside.Expanding.{Gathers};
-ghost use Rattle.producer.specs.Inside.Filing.{table_records, lists_most, words_lists, words_file};
+// The file of a direct sharing: what it is made of, its length, and writing it.
+ghost use Rattle.std.specs.Prelude.{◌≡◌, ◌+◌, ◌^◌, ◌≤◌, length};
 
-use direct::gather;
-use records::{put_end, put_list, put_numbers, put_record, record_size};
+use direct::{Rule, TermList};
+use records::{Kind, Writer, record_size};
 
-// How many bytes the lists take.
-fn lists_size(rule: &[u8], m: usize, s: usize, words: &[u8], list: &mut [u32]) -> usize
-    requires { Gathers rule.now m s (length words.now) (length list.old) }
-    ensures { (result ≡ length (list_records (words_lists m s words.now))) × (result ≤ lists_most) }
-{
-    let n = m * s;
-    let mut size: usize = 0;
-    let mut i: usize = 0;
-    while i < n {
-        let count = gather(rule, m, s, words, i / m, i % m, list);
-        size = size + record_size(4 * count);
-        i += 1;
+// What the file is made of: the rule, the table of the box, and the coefficient words of the box.
+#[derive(Clone, Copy)]
+pub struct Parts<'a> {
+    pub rule: Rule,
+    pub table: &'a [u8],
+    pub words: &'a [u8],
+    pub ghost sizes: { (length table.now ≡ 2 ^ rule.m) × (2 ^ rule.m ≤ length words.now) },
+}
+
+impl Parts<'_> {
+    ghost use Rattle.records.specs.Inside.Overwriting.{list_records};
+    ghost use Rattle.records.specs.Inside.Writes.{Writes};
+    ghost use Rattle.producer.specs.Inside.Filing.{lists_most};
+    ghost use Rattle.producer.specs.Inside.Made.{tables_of, lists_of, made};
+
+    // How many bytes the lists take.
+    fn lists_size(&self, list: &mut TermList) -> usize
+        ensures { (result ≡ length (list_records (lists_of self.now))) × (result ≤ lists_most) }
+    {
+        let mut size = 0;
+        for i in 0..self.rule.m * self.rule.s {
+            self.rule
+                .gather(self.words, i / self.rule.m, i % self.rule.m, list);
+            size += record_size(4 * list.len());
+        }
+        size
     }
-    size
-}
 
-// How many bytes the file takes: the head, S and G, the lists, the end.
-pub fn file_size(
-    rule: &[u8],
-    m: usize,
-    s: usize,
-    table: &[u8],
-    words: &[u8],
-    list: &mut [u32],
-) -> usize
-    requires { Gathers rule.now m s (length words.now) (length list.old) × (length table.now ≡ 2 ^ m) }
-    ensures { result ≡ length (words_file m s table.now words.now) }
-{
-    let tables = record_size(3) + 2 * record_size(table.len());
-    tables + lists_size(rule, m, s, words, list) + record_size(0)
-}
-
-// Writes the records before the lists, and answers where the lists start.
-fn put_tables(m: usize, s: usize, table: &[u8], out: &mut [u8]) -> usize
-    requires { (broken m s 1 ≡ false) × (length table.now ≡ 2 ^ m) × (length (table_records m s table.now) ≤ length out.old) }
-    ensures value { result ≡ length (table_records m s table.now) }
-    ensures out_after { out.new ≡ overwrite out.old 0 (table_records m s table.now) }
-{
-    let box_at = put_numbers(out, m, s, 1);
-    let stage_at = put_record(out, box_at, 2, table);
-    put_record(out, stage_at, 2, table)
-}
-
-// Writes the records of the lists, and answers where the next starts.
-fn put_lists(
-    rule: &[u8],
-    m: usize,
-    s: usize,
-    words: &[u8],
-    list: &mut [u32],
-    out: &mut [u8],
-    from: usize,
-) -> usize
-    requires { Gathers rule.now m s (length words.now) (length list.old) × (from + length (list_records (words_lists m s words.now)) ≤ length out.old) }
-    ensures value { result ≡ from + length (list_records (words_lists m s words.now)) }
-    ensures out_after { out.new ≡ overwrite out.old from (list_records (words_lists m s words.now)) }
-{
-    let n = m * s;
-    let mut at = from;
-    let mut i: usize = 0;
-    while i < n {
-        let count = gather(rule, m, s, words, i / m, i % m, list);
-        at = put_list(out, at, list, count);
-        i += 1;
+    // How many bytes the file takes: the head, S and G, the lists, the end.
+    pub fn size(&self, list: &mut TermList) -> usize
+        ensures { result ≡ length (made self.now) }
+    {
+        let tables = record_size(3) + 2 * record_size(self.table.len());
+        tables + self.lists_size(list) + record_size(0)
     }
-    at
-}
 
-// Writes the file of the direct sharing of the table that has these coefficient words.
-pub fn put_file(
-    rule: &[u8],
-    m: usize,
-    s: usize,
-    table: &[u8],
-    words: &[u8],
-    list: &mut [u32],
-    out: &mut [u8],
-)
-    requires { Gathers rule.now m s (length words.now) (length list.old) × (length table.now ≡ 2 ^ m) × (length (words_file m s table.now words.now) ≤ length out.old) }
-    ensures { out.new ≡ overwrite out.old 0 (words_file m s table.now words.now) }
-{
-    let lists_at = put_tables(m, s, table, out);
-    let end_at = put_lists(rule, m, s, words, list, out, lists_at);
-    put_end(out, end_at);
+    // Writes the records before the lists.
+    fn put_tables(&self, writer: &mut Writer<'_>)
+        requires { writer.old.at + length (tables_of self.now) ≤ length writer.old.out.now }
+        ensures { Writes writer.old writer.new (tables_of self.now) }
+    {
+        writer.numbers(self.rule.m, self.rule.s, 1);
+        writer.record(Kind::Table, self.table);
+        writer.record(Kind::Table, self.table);
+    }
+
+    // Writes the records of the lists. The loop is that of `lists_size` with another step: one function for both, with the step as a closure, is no plainer,
+    // since each step needs a bound that the lists before it decide, and a clause cannot say that of what a closure keeps.
+    fn put_lists(&self, list: &mut TermList, writer: &mut Writer<'_>)
+        requires { writer.old.at + length (list_records (lists_of self.now)) ≤ length writer.old.out.now }
+        ensures { Writes writer.old writer.new (list_records (lists_of self.now)) }
+    {
+        for i in 0..self.rule.m * self.rule.s {
+            self.rule
+                .gather(self.words, i / self.rule.m, i % self.rule.m, list);
+            writer.list(list.as_slice());
+        }
+    }
+
+    // Writes the file.
+    pub fn put(&self, list: &mut TermList, writer: &mut Writer<'_>)
+        requires { writer.old.at + length (made self.now) ≤ length writer.old.out.now }
+        ensures { Writes writer.old writer.new (made self.now) }
+    {
+        self.put_tables(writer);
+        self.put_lists(list, writer);
+        writer.end();
+    }
 }

@@ -1,7 +1,7 @@
 -- Laws of the bytes of a design file.
-pub mod Numbers
 pub mod TermBytes
 pub mod Joined
 pub mod Overwriting
-pub mod Putting
+pub mod ListRecords
+pub mod Writes
 pub mod Producing

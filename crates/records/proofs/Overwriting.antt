@@ -1,49 +1,17 @@
--- Laws of writing over a part of a list: two runs that follow one another are one run, so that the leaves of writing join into records and a file.
+-- Laws of writing over a part of a list: two runs that follow one another are one run.
 -- And how long records are, and lists one behind the other.
-use Prim.Native.Nat.{ℕ, zero, suc, ◌+◌, ◌-◌, ◌≤◌, ◌<◌}
+use Prim.Native.Nat.{ℕ, zero, suc, ◌+◌, ◌≤◌, ◌<◌}
 use mathlib.Core.Path.{◌≡◌, refl, sym, ap, ap₂, ◌∙◌}
-use mathlib.Core.List.{List, [], ◌∷◌, ◌++◌, map, map-append, append_assoc, append-nil}
+use mathlib.Core.List.{List, [], ◌∷◌, ◌++◌, map, map-append, append_assoc}
 use native.Mathlib.Omega.{arith}
-use native.Mathlib.Numerals.{add-one, towards_suc}
+use native.Mathlib.Numerals.{add-one}
 use native.Mathlib.Nat.{zero-add}
-use lib.ListN.{length, get_or, set, take, drop, length-append, length-drop, length-set, drop_of_length-le}
-use borrow.Rule.Slice.PartMut.{put_mid}
-use lib.Seq.{sets, sets-eq, paste-zero, take_all, take-suc, take-length, length-take-le, drop-drop, take_at, drop_at}
+use lib.ListN.{length, get_or, set, take, drop, length-append}
+use lib.Seq.{sets-eq, paste-zero, take-suc, take-length, length-take-le, drop-drop, take_at, drop_at}
 use Rattle.finite.specs.Tests.{total}
 use Rattle.records.specs.Inside.Overwriting.{overwrite}
-use Rattle.records.specs.Records.{join, record_head, a_record}
+use Rattle.records.specs.Records.{join, a_record}
 use Rattle.records.proofs.Joined.{join_last}
-
--- straight-line stores
-overwrite_sets : (b l : List ℕ) (at : ℕ) → at + length b ≤ length l → sets l at b ≡ overwrite l at b
-unfolding overwrite
-overwrite_sets b l at h = sets-eq b l at h
-
--- ---- four stores that follow one another, as `put_head` and `put_term` have them: o is the output, a, b, c, d are the bytes
-
-module _ (o : List ℕ) (at : ℕ) (h : at + 4 ≤ length o) (a b : ℕ) where
-  pub second_there : at + 1 < length (set o at a)
-  second_there = simp length-set (omega arith)
-
-  pub third_there : at + 2 < length (set (set o at a) (at + 1) b)
-  third_there = simp length-set (omega arith)
-
-  module _ (c : ℕ) where
-    pub fourth_there : at + 3 < length (set (set (set o at a) (at + 1) b) (at + 2) c)
-    fourth_there = simp length-set (omega arith)
-
-    pub four_put : (d : ℕ) → set (set (set (set o at a) (at + 1) b) (at + 2) c) (at + 3) d ≡ overwrite o at (a ∷ b ∷ c ∷ d ∷ [])
-    four_put d = simp towards_suc (overwrite_sets (a ∷ b ∷ c ∷ d ∷ []) o at (omega arith))
-
--- bytes copied over the front of all that follows `at`
-pub part_copied : (l b part : List ℕ) (at : ℕ) → part ≡ b ++ drop (length b) (take (length l - at) (drop at l)) → put_mid at (length l - at) l part ≡ overwrite l at b
-unfolding overwrite
-part_copied l b part at e =
-    ap₂ (λ (x y : List ℕ). take at l ++ (x ++ y))
-    (e ∙ ap (λ (x : List ℕ). b ++ drop (length b) x) (take_all (length l - at) (drop at l) (omega (arith, length-drop at l))) ∙ ap (λ (x : List ℕ). b ++ x) (drop-drop (length b) at l))
-    (drop_of_length-le (drop at l) {i = length l - at} (omega (arith, length-drop at l)))
-    ∙ ap (λ (x : List ℕ). take at l ++ x) (append-nil (b ++ drop (at + length b) l))
-    ∙ sym (append_assoc (take at l) b (drop (at + length b) l))
 
 overwrite_is : (l : List ℕ) (at : ℕ) (b : List ℕ) → overwrite l at b ≡ take at l ++ b ++ drop (at + length b) l
 unfolding overwrite
@@ -51,7 +19,8 @@ overwrite_is l at b = refl
 
 -- one byte
 pub overwrite_one : (l : List ℕ) (at b : ℕ) → at < length l → set l at b ≡ overwrite l at (b ∷ [])
-overwrite_one l at b h = overwrite_sets (b ∷ []) l at (omega arith)
+unfolding overwrite
+overwrite_one l at b h = sets-eq (b ∷ []) l at (omega arith)
 
 -- nothing written
 pub overwrite_nil : (l : List ℕ) (at : ℕ) → overwrite l at [] ≡ l
@@ -84,14 +53,13 @@ module _ (l : List ℕ) (at : ℕ) (a : List ℕ) (h : at ≤ length l) where
       overwrite_is (overwrite l at a) (at + length a) b
       ∙ rw (take_overwrite, d) (ap (λ (x : List ℕ). x ++ drop (at + length (a ++ b)) l) (append_assoc (take at l) a b) ∙ sym (overwrite_is l at (a ++ b)))
 
--- a record's head, then its body
-pub overwrite_record : (l : List ℕ) (at kind : ℕ) (b : List ℕ) → at ≤ length l → overwrite (overwrite l at (record_head (length b) kind)) (at + 4) b ≡ overwrite l at (a_record kind b)
-unfolding a_record
-overwrite_record l at kind b h = overwrite_append l at (record_head (length b) kind) h b
-
 pub record_length : (kind : ℕ) (b : List ℕ) → length (a_record kind b) ≡ 4 + length b
 unfolding a_record
 record_length kind b = omega arith
+
+-- where the next record starts
+pub record_end : (body : List ℕ) (at kind next : ℕ) → next ≡ at + 4 + length body → next ≡ at + length (a_record kind body)
+record_end body at kind next e = omega (arith, record_length kind body)
 
 pub two_records_length : (j k : ℕ) (a b : List ℕ) → length (a_record j a ++ a_record k b) ≡ 4 + length a + (4 + length b)
 two_records_length j k a b = length-append (a_record j a) (a_record k b) ∙ ap₂ ◌+◌ (record_length j a) (record_length k b)

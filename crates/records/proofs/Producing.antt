@@ -4,7 +4,7 @@ use mathlib.Core.Path.{◌≡◌, refl, sym, ap, ◌∙◌}
 use mathlib.Core.Logic.{◌≢◌}
 use mathlib.Core.Bool.{Bool, true, false}
 use mathlib.Core.List.{List, ◌++◌}
-use Prim.Native.Nat.{ℕ, ◌≤◌, ◌<◌}
+use Prim.Native.Nat.{ℕ, ◌≤◌}
 use native.Mathlib.Omega.{arith}
 use lib.Dec.{eqb}
 use lib.ListN.{length, take, drop, length-append}
@@ -12,15 +12,19 @@ use lib.Seq.{take-append_seam, drop-append_seam}
 use borrow.Author.Tests.{eq-eqb, ne_eqb}
 use Rattle.finite.proofs.Testing.{pick_true, pick_false}
 use Rattle.finite.specs.Tests.{pick}
-use Rattle.records.specs.Writing.{writing_answer, writing_after}
-use Rattle.records.specs.Inside.Overwriting.{overwrite, no_file}
+use Rattle.std.specs.Prelude.{Ok, Err}
+use Rattle.reasons.specs.Numbers.{number}
+use Rattle.reasons.specs.declared.Reason.{Reason}
+use Rattle.reasons.proofs.Numbers.{number_some}
+use Rattle.records.specs.Writing.{writing_answer, writing_after, produced_of}
+use Rattle.records.specs.Inside.Overwriting.{overwrite}
 use Rattle.records.specs.declared.Produced.{Produced}
 use Rattle.records.proofs.Overwriting.{overwrite_front}
 
 module _ (reason : ℕ) (file : List ℕ) where
   -- ---- a refusal
 
-  pub refusal_answer : reason ≢ 0 → no_file reason ≡ writing_answer reason file
+  refusal_answer : reason ≢ 0 → record { reason = reason; length = 0 } ≡ writing_answer reason file
   unfolding writing_answer
   refusal_answer n = rw (ne_eqb reason 0 n) refl
 
@@ -30,7 +34,7 @@ module _ (reason : ℕ) (file : List ℕ) where
 
   -- ---- success
 
-  pub success_answer : reason ≡ 0 → record { reason = 0; length = length file } ≡ writing_answer reason file
+  success_answer : reason ≡ 0 → record { reason = 0; length = length file } ≡ writing_answer reason file
   unfolding writing_answer
   success_answer e = rw e refl
 
@@ -67,11 +71,12 @@ pub record Answered (reason : ℕ) (file out : List ℕ) (r : Produced) (after :
   pub output : after ≡ writing_after reason file out
 
 module _ (reason : ℕ) (file out : List ℕ) where
-  pub refuses : (r : Produced) (k : ℕ) → r ≡ no_file k → 0 < k → reason ≡ k → Answered reason file out r out
-  refuses r k er p e =
-      let n : reason ≢ 0 = λ z. omega arith in
-      record { answer = er ∙ ap no_file (sym e) ∙ refusal_answer reason file n; output = sym (refusal_after reason file n out) }
+  -- refused for the reason k
+  pub refused : (k : Reason) → reason ≡ number k → Answered reason file out (produced_of (Err k)) out
+  refused k e =
+      let n : reason ≢ 0 = λ z. number_some k (sym e ∙ z) in
+      record { answer = rw (sym e) (refusal_answer reason file n); output = sym (refusal_after reason file n out) }
 
-  pub succeeds : (size : ℕ) (after : List ℕ) → size ≡ length file → reason ≡ 0 → after ≡ overwrite out 0 file
-      → Answered reason file out (record { reason = 0; length = size }) after
-  succeeds size after es e w = record { answer = rw es (success_answer reason file e); output = w ∙ success_written reason file e out }
+  -- written, with this length
+  pub written : (size : ℕ) (after : List ℕ) → size ≡ length file → reason ≡ 0 → after ≡ overwrite out 0 file → Answered reason file out (produced_of (Ok size)) after
+  written size after es e w = record { answer = rw es (success_answer reason file e); output = w ∙ success_written reason file e out }

@@ -1,22 +1,24 @@
 -- Laws of lists of terms and their bytes.
-use mathlib.Core.Path.{◌≡◌, refl, sym, ap, ap₂, ◌∙◌}
+use mathlib.Core.Path.{◌≡◌, refl, sym, ap, ◌∙◌}
+use mathlib.Core.Bool.{Bool, true, false}
 use mathlib.Core.List.{List, [], ◌∷◌}
 use Prim.Native.Nat.{ℕ, zero, suc, ◌+◌, ◌*◌, ◌/◌, ◌%◌, ◌^◌, ◌<◌, ◌≤◌}
 use native.Mathlib.Numerals.{towards_suc, unary_clauses}
-use native.Mathlib.Nat.{mul-le-mul_right, add-zero}
+use native.Mathlib.Nat.{mul-le-mul_right}
 use native.Mathlib.Omega.{arith}
-use lib.ListN.{length, get_or, drop, length-drop}
+use lib.Dec.{eqb}
+use lib.Bits.{bit_and, bit_or, bit_xor, xor_zero_r, or_add_and}
+use lib.ListN.{length, get_or, take, drop, length-drop}
 use lib.Seq.{drop-cons}
-use lib.Dec.{ltb}
 use mir.Syntax.{w64}
 use mir.Val.{Fits}
-use lib.Bits.{bit_and, bit_or, bit_xor, xor_self, xor_zero_r, or_add_and}
-use borrow.Author.Tests.{eq-eqb, ne_eqb}
-use mathlib.Core.Bool.{Bool, true, false}
+use borrow.Author.Tests.{eqb-true, eq-eqb}
+use Rattle.std.specs.Int.{from_bool, w32, from_le_bytes}
 use Rattle.finite.specs.Tests.{pick}
 use Rattle.finite.specs.Sets.{subset}
-use Rattle.finite.proofs.Xor.{xor_cancel, xor_ac, bit_cases}
-use Rattle.anf.specs.Terms.{before, value_at}
+use Rattle.finite.proofs.Testing.{bool_ext}
+use Rattle.finite.proofs.Xor.{xor_assoc}
+use Rattle.anf.specs.Terms.{value_at}
 use Rattle.records.specs.Bytes.{little, u32_at, term_bytes}
 use Rattle.records.specs.Inside.Terms.{terms}
 
@@ -73,10 +75,6 @@ module _ (l : List ℕ) (j : ℕ) (b : j < length (terms l)) where
   pub term_is : (r : ℕ) → r ≡ u32_at l (4 * j) → r ≡ get_or (terms l) j 0
   term_is r e = e ∙ terms_at l j b
 
-pub before_is : (a b : ℕ) → ltb a b ≡ before a b
-unfolding before
-before_is a b = refl
-
 pub count_is : (l : List ℕ) → length l / 4 ≡ length (terms l)
 count_is l = sym (terms_length l)
 
@@ -98,114 +96,46 @@ unfolding term_bytes
 length_term_bytes [] = refl
 length_term_bytes (t ∷ ts) = let e = length_term_bytes ts in omega arith
 
--- ---- counting terms
+-- ---- the value of a list: v is that of the terms so far, l are those that are left
 
--- r is the count with a term more
-pub term_counted : (n t x : ℕ) → bit_or t x ≡ x → n + 1 ≡ n + pick (subset t x) 1 0
+one_there : (t x : ℕ) → eqb (bit_or t x) x ≡ subset t x
 unfolding subset
-term_counted n t x o = let q : bit_and t x ≡ t = omega (arith, or_add_and t x) in rw (eq-eqb _ _ q) refl
+one_there t x =
+    bool_ext (eqb (bit_or t x) x) (eqb (bit_and t x) t)
+    (λ h. eq-eqb _ _ (omega (arith, or_add_and t x, eqb-true _ _ h)))
+    (λ h. eq-eqb _ _ (omega (arith, or_add_and t x, eqb-true _ _ h)))
 
-pub term_passed : (n t x : ℕ) → (bit_or t x ≡ x → ⊥) → n ≡ n + pick (subset t x) 1 0
-unfolding subset
-term_passed n t x o =
-    let q : bit_and t x ≡ t → ⊥ = λ z. o (omega (arith, or_add_and t x)) in
-    rw (ne_eqb _ _ q) (sym (add-zero n))
+one_is : (b : Bool) → from_bool b ≡ pick b 1 0
+one_is true = refl
+one_is false = refl
 
--- its last bit
-count_bit : (n r : ℕ) (b : Bool) → r ≡ n + pick b 1 0 → r % 2 ≡ bit_xor (n % 2) (pick b 1 0)
-count_bit n r true e = bit_cases (λ b. r % 2 ≡ (b + 1) % 2 → r % 2 ≡ bit_xor b 1) (λ e. e) (λ e. e) n (omega arith)
-count_bit n r false e = ap (λ (x : ℕ). x % 2) (e ∙ add-zero n) ∙ sym (xor_zero_r (n % 2))
+module _ (ts l : List ℕ) (x v : ℕ) (i : bit_xor v (value_at l x) ≡ value_at ts x) where
+  -- the first of them is the term t, and r is whether it is 1
+  pub value_more : (t r : ℕ) (l' : List ℕ) → l ≡ t ∷ l' → r ≡ from_bool (eqb (bit_or t x) x) → bit_xor (bit_xor v r) (value_at l' x) ≡ value_at ts x
+  unfolding value_at
+  value_more t r l' e er =
+      let p : r ≡ pick (subset t x) 1 0 = er ∙ ap from_bool (one_there t x) ∙ one_is (subset t x) in
+      xor_assoc v r (value_at l' x) ∙ ap (λ (a : ℕ). bit_xor v (bit_xor a (value_at l' x))) p ∙ rw e at i
 
--- it is one more at most
-count_most : (n r : ℕ) (b : Bool) → r ≡ n + pick b 1 0 → r ≤ n + 1
-count_most n r true e = omega arith
-count_most n r false e = omega arith
+  -- none is left
+  pub value_all : l ≡ [] → v ≡ value_at ts x
+  unfolding value_at
+  value_all e = sym (xor_zero_r v) ∙ rw e at i
 
--- the value of the terms from a place on
-abbrev pub rest : List ℕ → ℕ → ℕ → ℕ
-rest l x at = value_at (terms (drop at l)) x
+-- ---- going over a list: l are the bytes that are left, f the first four
 
-rest_step : (l : List ℕ) (x at : ℕ) → at + 4 ≤ length l → rest l x at ≡ bit_xor (pick (subset (u32_at l at) x) 1 0) (rest l x (at + 4))
-unfolding value_at
-rest_step l x at h = rw (terms_cons l at h) refl
+pub none_left : (l : List ℕ) → length l < 4 → terms l ≡ []
+none_left l h = terms_short l h
 
-rest_end : (l : List ℕ) (x at : ℕ) → length l < at + 4 → rest l x at ≡ 0
-unfolding value_at
-rest_end l x at h = rw (terms_end l at h) refl
+pub first_left : (l f r : List ℕ) (n : ℕ) → (f ≡ take 4 l) × (r ≡ drop 4 l) × (length r + 4 ≡ length l) → n ≡ from_le_bytes w32 f → terms l ≡ n ∷ terms r
+unfolding terms
+first_left [] f r n e en = absurd (omega (arith, e.2))
+first_left (a ∷ []) f r n e en = absurd (omega (arith, e.2))
+first_left (a ∷ b ∷ []) f r n e en = absurd (omega (arith, e.2))
+first_left (a ∷ b ∷ c ∷ []) f r n e en = absurd (omega (arith, e.2))
+first_left (a ∷ b ∷ c ∷ d ∷ l) f r n e en =
+    let g : n ≡ from_le_bytes w32 (a ∷ b ∷ c ∷ d ∷ []) = en ∙ ap (from_le_bytes w32) e.0 in
+    rw e.1 (ap (λ (x : ℕ). x ∷ terms l) (omega (arith, g)))
 
-rest_last : (l : List ℕ) (x at : ℕ) → at + 4 ≤ length l → length l < at + 8 → rest l x at ≡ pick (subset (u32_at l at) x) 1 0
-rest_last l x at h k = rest_step l x at h ∙ ap (bit_xor (pick (subset (u32_at l at) x) 1 0)) (rest_end l x (at + 4) (omega arith)) ∙ xor_zero_r _
-
--- s so far, and what is left: the terms from `at` on up to half, and those from half and `at` on
-unfoldable pub Left : List ℕ → ℕ → ℕ → ℕ → ℕ → Type 0
-Left l x half at s = bit_xor s (bit_xor (rest l x at) (bit_xor (rest l x half) (rest l x (half + at)))) ≡ value_at (terms l) x
-
-pub left_start : (l : List ℕ) (x half : ℕ) → Left l x half 0 0
-unfolding Left
-left_start l x half =
-    let o : half + 0 ≡ half = omega arith in
-    rw (o, xor_self (rest l x half)) (xor_zero_r (rest l x 0))
-
-regroup : (s p q a h b : ℕ) → bit_xor (bit_xor (bit_xor s p) q) (bit_xor a (bit_xor h b)) ≡ bit_xor s (bit_xor (bit_xor p a) (bit_xor h (bit_xor q b)))
-regroup s p q a h b = simp xor_ac
-
--- a term of each half
-left_step : (l : List ℕ) (x half at s s₁ s₂ : ℕ) → at + 4 ≤ length l → half + at + 4 ≤ length l → Left l x half at s
-    → s₁ ≡ bit_xor s (pick (subset (u32_at l at) x) 1 0) → s₂ ≡ bit_xor s₁ (pick (subset (u32_at l (half + at)) x) 1 0) → Left l x half (at + 4) s₂
-unfolding Left
-left_step l x half at s s₁ s₂ h k i e f =
-    let p : ℕ = pick (subset (u32_at l at) x) 1 0 in
-    let q : ℕ = pick (subset (u32_at l (half + at)) x) 1 0 in
-    let o : half + (at + 4) ≡ half + at + 4 = omega arith in
-    rw (f, e, o) (
-    regroup s p q (rest l x (at + 4)) (rest l x half) (rest l x (half + at + 4))
-    ∙ ap₂ (λ (u v : ℕ). bit_xor s (bit_xor u (bit_xor (rest l x half) v))) (sym (rest_step l x at h)) (sym (rest_step l x (half + at) k))
-    ∙ i)
-
--- behind both halves
-behind : (l : List ℕ) (x half s : ℕ) → Left l x half half s → bit_xor s (rest l x (2 * half)) ≡ value_at (terms l) x
-unfolding Left
-behind l x half s i =
-    let o : 2 * half ≡ half + half = omega arith in
-    rw o (sym (ap (bit_xor s) (xor_cancel (rest l x half) (rest l x (half + half)))) ∙ i)
-
--- ---- the loop of `value`: n is the count so far, half the bytes of a half
-
-abbrev half_of : List ℕ → ℕ
-half_of l = length l / 8 * 4
-
--- no more terms are counted than were looked at, and a body has fewer than 65,536 bytes
-module _ (l : List ℕ) (x at n : ℕ) (c : 2 * n ≤ at) (s : length l < 65536) where
-  -- a turn: t and u are the terms, n₁ and n₂ the count after each
-  module _ (h : at < half_of l) (a : at % 4 ≡ 0) where
-    pub room_one : n < 65536
-    room_one = omega arith
-
-    pub room_two : (t n₁ : ℕ) → n₁ ≡ n + pick (subset t x) 1 0 → n₁ < 65536
-    room_two t n₁ e = omega (arith, count_most n n₁ (subset t x) e)
-
-  -- the term behind both halves
-  pub room_last : at ≤ half_of l → (length l / 4 % 2 ≡ 0 → ⊥) → n < 65536
-  room_last h q = omega arith
-
-pub counted_more : (x at n t n₁ u n₂ : ℕ) → 2 * n ≤ at → n₁ ≡ n + pick (subset t x) 1 0 → n₂ ≡ n₁ + pick (subset u x) 1 0 → 2 * n₂ ≤ at + 4
-counted_more x at n t n₁ u n₂ c e₁ e₂ = omega (arith, count_most n n₁ (subset t x) e₁, count_most n₁ n₂ (subset u x) e₂)
-
-pub left_more : (l : List ℕ) (x at n t n₁ u n₂ : ℕ) → n₂ ≡ n₁ + pick (subset u x) 1 0 → n₁ ≡ n + pick (subset t x) 1 0
-    → Left l x (half_of l) at (n % 2) → at < half_of l → at % 4 ≡ 0 → t ≡ u32_at l at → u ≡ u32_at l (half_of l + at) → Left l x (half_of l) (at + 4) (n₂ % 2)
-left_more l x at n t n₁ u n₂ e₂ e₁ i h a et eu =
-    left_step l x (half_of l) at (n % 2) (n₁ % 2) (n₂ % 2) (omega arith) (omega arith) i (rw et at (count_bit n n₁ (subset t x) e₁)) (rw eu at (count_bit n₁ n₂ (subset u x) e₂))
-
-module _ (l : List ℕ) (x at n : ℕ) (i : Left l x (half_of l) at (n % 2)) where
-  module _ (h : at ≤ half_of l) (k : half_of l ≤ at) where
-    after : bit_xor (n % 2) (rest l x (2 * half_of l)) ≡ value_at (terms l) x
-    after = let e : at ≡ half_of l = omega arith in behind l x (half_of l) (n % 2) (rw e at i)
-
-    -- no term is left
-    pub left_none : length l / 4 % 2 ≡ 0 → n % 2 ≡ value_at (terms l) x
-    left_none q = sym (xor_zero_r (n % 2)) ∙ ap (bit_xor (n % 2)) (sym (rest_end l x (2 * half_of l) (omega arith))) ∙ after
-
-    -- the term t is left, n₁ is the count with it
-    pub left_one : (length l / 4 % 2 ≡ 0 → ⊥) → (t n₁ : ℕ) → t ≡ u32_at l (2 * half_of l) → n₁ ≡ n + pick (subset t x) 1 0 → n₁ % 2 ≡ value_at (terms l) x
-    left_one q t n₁ et e =
-        rw et at (count_bit n n₁ (subset t x) e) ∙ ap (bit_xor (n % 2)) (sym (rest_last l x (2 * half_of l) (omega arith) (omega arith))) ∙ after
+pub fewer_left : (l f r : List ℕ) → (f ≡ take 4 l) × (r ≡ drop 4 l) × (length r + 4 ≡ length l) → length (terms r) < length (terms l)
+fewer_left l f r e = omega (arith, terms_length l, terms_length r, e.2)

@@ -1,5 +1,6 @@
 -- The bytes of a design file.
 pub mod Bytes
+pub mod Kinds
 pub mod Records
 pub mod Writing
 pub mod Inside

@@ -1,5 +1,7 @@
 -- "Producing": the answer and the output afterwards, over the first refusal, or 0, and the file that is asked for.
-use Rattle.std.specs.Prelude.{ℕ, List, ◌++◌, eqb, length, drop}
+use Rattle.std.specs.Prelude.{ℕ, Result, Ok, Err, List, ◌++◌, eqb, length, drop}
+use Rattle.reasons.specs.declared.Reason.{Reason}
+use Rattle.reasons.specs.Numbers.{number}
 use Rattle.finite.specs.Tests.{pick}
 use Rattle.records.specs.declared.Produced.{Produced}
 
@@ -10,3 +12,8 @@ writing_answer reason file = record { reason = reason; length = pick (eqb reason
 -- a refusal leaves the output untouched, success the bytes past the file
 unfoldable pub writing_after : ℕ → List ℕ → List ℕ → List ℕ
 writing_after reason file out = pick (eqb reason 0) (file ++ drop (length file) out) out
+
+-- the answer of an outcome: 0 and the length that was written, or the number of the refusal and length 0
+abbrev pub produced_of : Result ℕ Reason → Produced
+produced_of (Ok n) = record { reason = 0; length = n }
+produced_of (Err r) = record { reason = number r; length = 0 }

@@ -2,19 +2,37 @@
 #![tactic(auto)]
 
 mod bytes; // bytes.rt: numbers in a file
+mod kind; // kind.rt: the kinds of records
 mod terms; // terms.rt: lists of terms as they stand in a file
-mod writer; // writer.rt: records, lists and the end of a file
+mod writer; // writer.rt: records written one behind the other
 
-pub use bytes::{pair, word};
-pub use terms::{count, stands_before, term, value};
-pub use writer::{
-    no_file, put_bytes, put_end, put_head, put_list, put_numbers, put_record, record_size,
-};
+pub use bytes::{u16_at, u32_at};
+pub use kind::Kind;
+use reasons::Reason;
+pub use terms::{Terms, TermsIter, stands_before};
+pub use writer::{Writer, record_size};
 
-// The answer of what writes a file: the number of a refusal, or 0 and the length of the file.
+/// What C is answered of what writes a file: the number of a refusal, or 0 and the length of the file. C has no Result.
 #[repr(C)]
 #[derive(Clone, Copy)]
 pub struct Produced {
     pub reason: usize,
     pub length: usize,
+}
+
+impl From<Result<usize, Reason>> for Produced {
+    ghost use Rattle.std.specs.Prelude.{◌≡◌};
+    ghost use Rattle.records.specs.Writing.{produced_of};
+
+    ghost from_gives = { λ outcome answer. answer ≡ produced_of outcome };
+
+    fn from(outcome: Result<usize, Reason>) -> Produced {
+        match outcome {
+            Ok(length) => Produced { reason: 0, length },
+            Err(reason) => Produced {
+                reason: reason.number(),
+                length: 0,
+            },
+        }
+    }
 }

@@ -1,61 +1,86 @@
 // Lists of terms as they stand in a file, four bytes each.
-ghost use Rattle.std.specs.Prelude.{◌≡◌, ◌+◌, ◌<◌, length, get_or};
-ghost use Rattle.finite.specs.Tests.{pick};
-ghost use Rattle.finite.specs.Sets.{subset};
+ghost use Rattle.std.specs.Prelude.{◌≡◌, ◌<◌, length, get_or};
 ghost use Rattle.anf.specs.Terms.{before, value_at};
-ghost use Rattle.records.specs.Inside.Terms.{terms};
+ghost use Rattle.records.specs.Inside.Terms.{terms, terms_of, left};
 
-use super::bytes::word;
+use super::bytes::u32_at;
 
-// Whether the term `a` stands before the term `b` in a list.
+/// Whether the term `a` stands before the term `b` in a list: the one function for the order of terms (docs/DECISIONS.md), which is no order of numbers to
+/// its readers.
+#[tactic(auto, unfolding(anf::specs::Terms::before))]
 pub fn stands_before(a: u32, b: u32) -> bool
     ensures { result ≡ before a b }
 {
     a < b
 }
 
-// How many terms a list has.
-pub fn count(list: &[u8]) -> usize
-    ensures { result ≡ length (terms list.now) }
-{
-    list.len() / 4
+/// A list of terms as it stands in a file.
+#[derive(Clone, Copy, Debug)]
+pub struct Terms<'a> {
+    bytes: &'a [u8],
 }
 
-// Term `j` of a list.
-pub fn term(list: &[u8], j: usize) -> u32
-    requires { j < length (terms list.now) }
-    ensures { result ≡ get_or (terms list.now) j 0 }
-{
-    word(list, 4 * j)
+impl<'a> Terms<'a> {
+    /// The list that these bytes are.
+    pub fn new(bytes: &'a [u8]) -> Terms<'a>
+        ensures { terms_of result ≡ terms bytes.now }
+    {
+        Terms { bytes }
+    }
+
+    /// How many terms it has.
+    pub fn len(&self) -> usize
+        ensures { result ≡ length (terms_of self.now) }
+    {
+        self.bytes.len() / 4
+    }
+
+    /// Term `j`.
+    pub fn term(&self, j: usize) -> u32
+        requires { j < length (terms_of self.now) }
+        ensures { result ≡ get_or (terms_of self.now) j 0 }
+    {
+        u32_at(self.bytes, 4 * j)
+    }
+
+    /// Goes over its terms, from the first on.
+    pub fn iter(&self) -> TermsIter<'a>
+        ensures { left result ≡ terms_of self.now }
+    {
+        TermsIter { rest: self.bytes }
+    }
+
+    /// Its value at `x`: how many of its terms are 1 there, modulo 2.
+    pub fn value(&self, x: u32) -> u32
+        ensures { result ≡ value_at (terms_of self.now) x }
+    {
+        let mut value: u32 = 0;
+        for term in self.iter() {
+            value ^= u32::from(term | x == x);
+        }
+        value
+    }
 }
 
-// A count of terms, and one more if the term `t` is 1 at `x`.
-fn counted(n: u32, t: u32, x: u32) -> u32
-    requires { n < 65536 }
-    ensures { result ≡ n + pick (subset t x) 1 0 }
-{
-    if t | x == x {
-        return n + 1;
-    }
-    n
+/// The terms of a list that are left to go over.
+#[derive(Drop)]
+pub struct TermsIter<'a> {
+    rest: &'a [u8],
 }
 
-// The value at `x` of a list: how many of its terms are 1 there, modulo 2. A turn of the loop takes a term of each half, which long lists gain by; a last term
-// may follow.
-pub fn value(list: &[u8], x: u32) -> u32
-    requires { length list.now < 65536 }
-    ensures { result ≡ value_at (terms list.now) x }
-{
-    let half = list.len() / 8 * 4;
-    let mut n: u32 = 0;
-    let mut at: usize = 0;
-    while at < half {
-        n = counted(n, word(list, at), x);
-        n = counted(n, word(list, half + at), x);
-        at += 4;
+impl<'a> Iterator for TermsIter<'a> {
+    ghost use Rattle.std.specs.Iterator.{YieldsFirst, item_count};
+    ghost use Rattle.records.specs.Inside.Terms.{left};
+
+    type Item = u32;
+
+    ghost next_gives = { YieldsFirst left };
+
+    ghost remaining = { item_count left };
+
+    fn next(&mut self) -> Option<u32> {
+        let (term, rest) = self.rest.split_first_chunk::<4>()?;
+        self.rest = rest;
+        Some(u32::from_le_bytes(*term))
     }
-    if list.len() / 4 % 2 == 0 {
-        return n % 2;
-    }
-    counted(n, word(list, 2 * half), x) % 2
 }

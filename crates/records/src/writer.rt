@@ -1,98 +1,105 @@
-// Writing: a record's head, a run of bytes and a term, a record, a list and the end of a file; and the answer where no file is written.
-ghost use Rattle.std.specs.Prelude.{◌≡◌, [], ◌∷◌, ◌+◌, ◌*◌, ◌≤◌, ◌<◌, length, take};
-ghost use Rattle.records.specs.Bytes.{four};
+// Writing records, one behind the other.
+ghost use Rattle.std.specs.Prelude.{◌≡◌, [], ◌∷◌, ◌+◌, ◌*◌, ◌≤◌, ◌<◌, length};
 ghost use Rattle.records.specs.Records.{record_head, a_record, list_record, end_record};
-ghost use Rattle.records.specs.Inside.Overwriting.{overwrite, no_file};
 
-use super::Produced;
-use finite::copy;
+use super::Kind;
 
-// The answer of a refusal.
-pub fn no_file(reason: usize) -> Produced
-    ensures { result ≡ no_file reason }
-{
-    Produced { reason, length: 0 }
+/// An output that is written from its front on: the next byte goes to the place `at`. Each method asks that a body's length fits two bytes: a length with
+/// that fact as a type would be no plainer, as each caller would make one first. Each asks for room for what it writes too:
+/// how much differs from call to call, so no type has it.
+#[derive(Drop)]
+pub struct Writer<'a> {
+    pub out: &'a mut [u8],
+    pub at: usize,
 }
 
-// Writes a record's head: the length of its body, and its kind.
-pub fn put_head(out: &mut [u8], at: usize, size: usize, kind: usize)
-    requires { (at + 4 ≤ length out.old) × (size < 65536) × (kind < 65536) }
-    ensures { out.new ≡ overwrite out.old at (record_head size kind) }
-{
-    out[at] = (size % 256) as u8;
-    out[at + 1] = (size / 256) as u8;
-    out[at + 2] = (kind % 256) as u8;
-    out[at + 3] = (kind / 256) as u8;
+impl<'a> Writer<'a> {
+    ghost use Rattle.records.specs.Inside.Writes.{Starts, Writes};
+    ghost use Rattle.records.specs.Kinds.{code};
+
+    /// Starts at the front of an output.
+    pub fn new(out: &'a mut [u8]) -> Writer<'a>
+        ensures { Starts out.entry result }
+    {
+        Writer { out, at: 0 }
+    }
+
+    /// Writes a run of bytes.
+    pub fn bytes(&mut self, bytes: &[u8])
+        requires { self.old.at + length bytes.now ≤ length self.old.out.now }
+        ensures { Writes self.old self.new bytes.now }
+    {
+        let end = self.at + bytes.len();
+        self.out[self.at..end].copy_from_slice(bytes);
+        self.at = end;
+    }
+
+    /// Writes a record's head: the length of its body, and the number of its kind, whatever it is.
+    pub fn numbered_head(&mut self, size: usize, kind: u16)
+        requires { (self.old.at + 4 ≤ length self.old.out.now) × (size < 65536) }
+        ensures { Writes self.old self.new (record_head size kind) }
+    {
+        self.bytes(&(size as u16).to_le_bytes());
+        self.bytes(&kind.to_le_bytes());
+    }
+
+    /// Writes a record of a kind of this number.
+    pub fn numbered_record(&mut self, kind: u16, body: &[u8])
+        requires { (self.old.at + 4 + length body.now ≤ length self.old.out.now) × (length body.now < 65536) }
+        ensures { Writes self.old self.new (a_record kind body.now) }
+    {
+        self.numbered_head(body.len(), kind);
+        self.bytes(body);
+    }
+
+    /// Writes the head of a record of a kind.
+    pub fn head(&mut self, size: usize, kind: Kind)
+        requires { (self.old.at + 4 ≤ length self.old.out.now) × (size < 65536) }
+        ensures { Writes self.old self.new (record_head size (code kind)) }
+    {
+        self.numbered_head(size, kind.code());
+    }
+
+    /// Writes a record of a kind.
+    pub fn record(&mut self, kind: Kind, body: &[u8])
+        requires { (self.old.at + 4 + length body.now ≤ length self.old.out.now) × (length body.now < 65536) }
+        ensures { Writes self.old self.new (a_record (code kind) body.now) }
+    {
+        self.numbered_record(kind.code(), body);
+    }
+
+    /// Writes the record of the head's three numbers.
+    pub fn numbers(&mut self, m: usize, s: usize, k: usize)
+        requires { (self.old.at + 7 ≤ length self.old.out.now) × (m < 256) × (s < 256) × (k < 256) }
+        ensures { Writes self.old self.new (a_record 1 (m ∷ s ∷ k ∷ [])) }
+    {
+        self.record(Kind::Head, &[m as u8, s as u8, k as u8]);
+    }
+
+    /// Writes the record of a list of terms.
+    pub fn list(&mut self, terms: &[u32])
+        requires { (self.old.at + 4 + 4 * length terms.now ≤ length self.old.out.now) × (4 * length terms.now < 65536) }
+        ensures { Writes self.old self.new (list_record terms.now) }
+    {
+        self.head(4 * terms.len(), Kind::List);
+        for term in terms {
+            self.bytes(&term.to_le_bytes());
+        }
+    }
+
+    /// Writes the record that ends a file.
+    pub fn end(&mut self)
+        requires { self.old.at + 4 ≤ length self.old.out.now }
+        ensures { Writes self.old self.new end_record }
+    {
+        self.head(0, Kind::End);
+    }
 }
 
-// Writes a run of bytes, and answers where the next starts.
-pub fn put_bytes(out: &mut [u8], at: usize, bytes: &[u8]) -> usize
-    requires { at + length bytes.now ≤ length out.old }
-    ensures value { result ≡ at + length bytes.now }
-    ensures out_after { out.new ≡ overwrite out.old at bytes.now }
-{
-    copy(bytes, &mut out[at..]);
-    at + bytes.len()
-}
-
-// Writes a term.
-fn put_term(out: &mut [u8], at: usize, t: u32)
-    requires { at + 4 ≤ length out.old }
-    ensures { out.new ≡ overwrite out.old at (four t) }
-{
-    out[at] = (t % 256) as u8;
-    out[at + 1] = (t / 256 % 256) as u8;
-    out[at + 2] = (t / 65536 % 256) as u8;
-    out[at + 3] = (t / 16777216) as u8;
-}
-
-// How many bytes a record takes whose body has so many.
+/// How many bytes a record takes whose body has so many.
 pub fn record_size(body: usize) -> usize
     requires { body < 65536 }
     ensures { result ≡ 4 + body }
 {
     4 + body
-}
-
-// Writes a record, and answers where the next starts.
-pub fn put_record(out: &mut [u8], at: usize, kind: usize, body: &[u8]) -> usize
-    requires { (at + length (a_record kind body.now) ≤ length out.old) × (length body.now < 65536) × (kind < 65536) }
-    ensures value { result ≡ at + length (a_record kind body.now) }
-    ensures out_after { out.new ≡ overwrite out.old at (a_record kind body.now) }
-{
-    put_head(out, at, body.len(), kind);
-    put_bytes(out, at + 4, body)
-}
-
-// Writes the record of the head's three numbers at the front, and answers where the next starts.
-pub fn put_numbers(out: &mut [u8], m: usize, s: usize, k: usize) -> usize
-    requires { (length (a_record 1 (m ∷ s ∷ k ∷ [])) ≤ length out.old) × (m < 256) × (s < 256) × (k < 256) }
-    ensures value { result ≡ length (a_record 1 (m ∷ s ∷ k ∷ [])) }
-    ensures out_after { out.new ≡ overwrite out.old 0 (a_record 1 (m ∷ s ∷ k ∷ [])) }
-{
-    let body = [m as u8, s as u8, k as u8];
-    put_record(out, 0, 1, &body)
-}
-
-// Writes the record of the list of the first n terms, and answers where the next starts.
-pub fn put_list(out: &mut [u8], at: usize, list: &[u32], n: usize) -> usize
-    requires { (at + 4 + 4 * n ≤ length out.old) × (n ≤ length list.now) × (4 * n < 65536) }
-    ensures value { result ≡ at + length (list_record (take n list.now)) }
-    ensures out_after { out.new ≡ overwrite out.old at (list_record (take n list.now)) }
-{
-    put_head(out, at, 4 * n, 3);
-    let mut j: usize = 0;
-    while j < n {
-        put_term(out, at + 4 + 4 * j, list[j]);
-        j += 1;
-    }
-    at + record_size(4 * n)
-}
-
-// Writes the record that ends a file.
-pub fn put_end(out: &mut [u8], at: usize)
-    requires { at + length end_record ≤ length out.old }
-    ensures { out.new ≡ overwrite out.old at end_record }
-{
-    put_head(out, at, 0, 4);
 }

@@ -1,202 +1,110 @@
--- Laws of the entries of a table or of a file in text.
+-- Laws of the entries of a table or of a file: of n that are due in the line l₀, i were read, and l is what is left of it.
 -- Assumes nothing.
-use mathlib.Core.Path.{◌≡◌, refl, sym, ap, ◌∙◌}
-use mathlib.Core.Bool.{Bool, true, false, not}
-use mathlib.Core.List.{List, [], ◌∷◌, ◌++◌}
-use Prim.Native.Nat.{ℕ, zero, suc, ◌+◌, ◌*◌, ◌-◌, ◌≤◌, ◌<◌}
-use native.Mathlib.Nat.{sub-zero}
-use native.Mathlib.Numerals.{add-one}
-use native.Mathlib.Omega.{arith}
-use lib.ListN.{length, get_or, take, drop, set, length-set, length-drop}
-use lib.Seq.{drop-cons, take-suc, take-length, length-take-le, append_snoc, set_at}
-use borrow.Author.Tests.{lt-ltb, le-ltb, le-leb, lt-leb, not-true, not-false}
-use Rattle.io.specs.Counts.{IsPrefixLen}
-use Rattle.text.specs.Lines.{digit_of, entry_read, past_entry, is_entry, entries_from, past_entries, count_at, entries_over}
-use Rattle.text.specs.declared.Number.{Number}
-use Rattle.text.proofs.Digits.{as_number}
+use Rattle.std.proofs.Common.{◌≡◌, refl, ℕ, zero, suc, ◌+◌, ◌-◌, ◌<◌, ◌≤◌, Bool, List, [], ◌∷◌, ◌++◌, Some, None, sym, ap, ◌∙◌, append_assoc, append-nil, arith, length, get_or, drop, length-append, length-drop, drop-cons}
+use Rattle.std.proofs.Math.Nat.{sub-zero}
+use Rattle.std.proofs.Math.ListN.{set}
+use Rattle.std.proofs.Math.Seq.{set-append_seam}
+use Rattle.text.specs.Lines.{entry_of, after_entry, entries_of, after_entries}
 
--- ---- `entry_at`
-
-module _ (text : List ℕ) (at : ℕ) (wide : Bool) (h : ℕ) (eh : h ≡ digit_of (get_or text at 0)) where
-  pub entry_no_high : 16 ≤ h → 256 ≡ entry_read text at wide
-  unfolding entry_read
-  entry_no_high n = rw (sym eh) (rw (le-leb 16 h n) refl)
-
-  module _ (a : h < 16) where
-    pub entry_narrow : not wide ≡ true → h ≡ entry_read text at wide
-    unfolding entry_read
-    entry_narrow w = rw (sym eh) (rw (lt-leb 16 h a) (rw w refl))
-
-    module _ (w : not wide ≡ false) where
-      pub entry_cut : length text ≤ at + 1 → 256 ≡ entry_read text at wide
-      unfolding entry_read
-      entry_cut n = rw (sym eh) (rw (lt-leb 16 h a) (rw w (rw (le-leb (length text) (at + 1) n) refl)))
-
-      module _ (b : at + 1 < length text) (l : ℕ) (el : l ≡ digit_of (get_or text (at + 1) 0)) where
-        pub entry_no_low : 16 ≤ l → 256 ≡ entry_read text at wide
-        unfolding entry_read
-        entry_no_low n = rw (sym eh) (rw (sym el) (rw (lt-leb 16 h a) (rw w (rw (lt-leb (length text) (at + 1) b) (rw (le-leb 16 l n) refl)))))
-
-        pub entry_both : l < 16 → 16 * h + l ≡ entry_read text at wide
-        unfolding entry_read
-        entry_both n = rw (sym eh) (rw (sym el) (rw (lt-leb 16 h a) (rw w (rw (lt-leb (length text) (at + 1) b) (rw (lt-leb 16 l n) refl)))))
-
--- ---- `stepped`
-
-module _ (text : List ℕ) (at : ℕ) (wide : Bool) where
-  pub past_narrow : not wide ≡ true → at + 1 ≡ past_entry text at wide
-  unfolding past_entry
-  past_narrow w = rw (not-true wide w) refl
-
-  module _ (w : not wide ≡ false) where
-    pub past_cut : length text < at + 2 → at + 1 ≡ past_entry text at wide
-    unfolding past_entry
-    past_cut h = rw (not-false wide w) (rw (lt-leb (at + 2) (length text) h) refl)
-
-    pub past_wide : at + 2 ≤ length text → at + 2 ≡ past_entry text at wide
-    unfolding past_entry
-    past_wide h = rw (not-false wide w) (rw (le-leb (at + 2) (length text) h) refl)
-
--- ---- `read_entries`
-
--- the entries that are due from `at` on
-abbrev due_entries : List ℕ → Bool → ℕ → List ℕ → List ℕ
-due_entries text wide at out₀ = entries_from text wide (length out₀) at
-
--- of them n were read, from `at` to i, and written
-pub record Taken (text : List ℕ) (wide : Bool) (at : ℕ) (out₀ out : List ℕ) (i n : ℕ) : Type 0 where
-  pub from : at ≤ i
-  pub within : i ≤ length text
-  pub room : n ≤ length out₀
-  pub size : length out ≡ length out₀
-  pub count : n ≤ length (due_entries text wide at out₀)
-  pub left : drop n (due_entries text wide at out₀) ≡ entries_from text wide (length out₀ - n) i
-  pub next : past_entries text wide (length out₀ - n) i ≡ past_entries text wide (length out₀) at
-  pub written : out ≡ take n (due_entries text wide at out₀) ++ drop n out₀
-
--- these are all
-pub record AllTaken (text : List ℕ) (wide : Bool) (at : ℕ) (out₀ out : List ℕ) (i n : ℕ) : Type 0 where
-  pub answer : ◌≡◌ {A = Number} (record { value = n; next = i }) (count_at text wide (length out₀) at)
-  pub output : out ≡ entries_over text wide at out₀
-  pub from : at ≤ i
-  pub within : i ≤ length text
-  pub counts : IsPrefixLen n out
-
-pub all_taken : {text : List ℕ} {wide : Bool} {at : ℕ} {out₀ out : List ℕ} {i n : ℕ} → AllTaken text wide at out₀ out i n
-    → record {
-      value : ◌≡◌ {A = Number} (record { value = n; next = i }) (count_at text wide (length out₀) at);
-      out_after : out ≡ entries_over text wide at out₀;
-      at_le_next : (at ≤ i) × (i ≤ length text) × IsPrefixLen n out;
-    }
-all_taken a = record { value = a.answer; out_after = a.output; at_le_next = (a.from, a.within, a.counts) }
-
-pub taken_start : (text : List ℕ) (wide : Bool) (at : ℕ) (out₀ : List ℕ) → at ≤ length text → Taken text wide at out₀ out₀ at 0
-taken_start text wide at out₀ h = record {
-  from = omega arith;
-  within = h;
-  room = omega arith;
-  size = refl;
-  count = omega arith;
-  left = rw (sub-zero (length out₀)) refl;
-  next = rw (sub-zero (length out₀)) refl;
-  written = refl;
-}
-
-module _ (text : List ℕ) (wide : Bool) (i : ℕ) where
-  module _ (n : is_entry text i wide ≡ false) where
-    none_left : (k : ℕ) → entries_from text wide k i ≡ []
-    unfolding entries_from
+module _ (wide : Bool) (l : List ℕ) where
+  module _ (s : None ≡ entry_of wide l) where
+    none_left : (k : ℕ) → entries_of k wide l ≡ []
+    unfolding entries_of
     none_left zero = refl
-    none_left (suc k) = rw n refl
+    none_left (suc k) = rw (sym s) refl
 
-    none_past : (k : ℕ) → past_entries text wide k i ≡ i
-    unfolding past_entries
-    none_past zero = refl
-    none_past (suc k) = rw n refl
+    none_after : (k : ℕ) → after_entries k wide l ≡ l
+    unfolding after_entries
+    none_after zero = refl
+    none_after (suc k) = rw (sym s) refl
 
-  no_text : length text ≤ i → is_entry text i wide ≡ false
-  unfolding is_entry
-  no_text h = rw (le-ltb i (length text) h) refl
+  module _ (e : ℕ) (s : Some e ≡ entry_of wide l) (k : ℕ) where
+    one_left : entries_of (suc k) wide l ≡ e ∷ entries_of k wide (after_entry wide l)
+    unfolding entries_of
+    one_left = rw (sym s) refl
 
-  module _ (e : ℕ) (ee : e ≡ entry_read text i wide) (h : i < length text) where
-    no_entry : 256 ≤ e → is_entry text i wide ≡ false
-    unfolding is_entry
-    no_entry n = rw (lt-ltb i (length text) h) (rw (sym ee) (rw (le-ltb e 256 n) refl))
+    one_after : after_entries (suc k) wide l ≡ after_entries k wide (after_entry wide l)
+    unfolding after_entries
+    one_after = rw (sym s) refl
 
-    entry : e < 256 → is_entry text i wide ≡ true
-    unfolding is_entry
-    entry n = rw (lt-ltb i (length text) h) (rw (sym ee) (rw (lt-ltb e 256 n) refl))
+-- those read, with those that are still due, are all
+pub record AreRead (n : ℕ) (wide : Bool) (l₀ entries : List ℕ) (i : ℕ) (l : List ℕ) : Type 0 where
+  pub all : entries ++ entries_of (n - i) wide l ≡ entries_of n wide l₀
+  pub rest : after_entries (n - i) wide l ≡ after_entries n wide l₀
 
-    module _ (n : e < 256) (j : ℕ) (ej : j ≡ past_entry text i wide) (k : ℕ) where
-      one_left : entries_from text wide (suc k) i ≡ e ∷ entries_from text wide k j
-      unfolding entries_from
-      one_left = rw (entry n) (rw (sym ee) (rw (sym ej) refl))
+-- and none is due any more
+pub record AreAll (n : ℕ) (wide : Bool) (l₀ entries l : List ℕ) : Type 0 where
+  pub value : entries ≡ entries_of n wide l₀
+  pub rest : l ≡ after_entries n wide l₀
 
-      one_past : past_entries text wide (suc k) i ≡ past_entries text wide k j
-      unfolding past_entries
-      one_past = rw (entry n) (rw (sym ej) refl)
-
-no_room_left : (text : List ℕ) (wide : Bool) (i k : ℕ) → k ≡ 0 → entries_from text wide k i ≡ []
-unfolding entries_from
-no_room_left text wide i k z = rw z refl
-
-no_room_past : (text : List ℕ) (wide : Bool) (i k : ℕ) → k ≡ 0 → past_entries text wide k i ≡ i
-unfolding past_entries
-no_room_past text wide i k z = rw z refl
-
-module _ (text : List ℕ) (wide : Bool) (at : ℕ) (out₀ out : List ℕ) (i n : ℕ) (t : Taken text wide at out₀ out i n) where
-  all : entries_from text wide (length out₀ - n) i ≡ [] → past_entries text wide (length out₀ - n) i ≡ i → AllTaken text wide at out₀ out i n
-  unfolding count_at entries_over
-  all none past =
-      let R = due_entries text wide at out₀ in
-      let short : length R - n ≡ 0 = sym (length-drop n R) ∙ ap length (t.left ∙ none) in
-      let len : n ≡ length R = omega (arith, short, t.count) in
-      let fits : n ≤ length out = omega (arith, t.size, t.room) in
+module _ (n : ℕ) (wide : Bool) (l₀ entries : List ℕ) (i : ℕ) (l : List ℕ) (r : AreRead n wide l₀ entries i l) where
+  pub one_more : (e : ℕ) (more rest : List ℕ) → i < n → Some e ≡ entry_of wide l → more ≡ entries ++ e ∷ [] → rest ≡ after_entry wide l → AreRead n wide l₀ more (i + 1) rest
+  one_more e more rest h s m t =
+      let less : n - i ≡ suc (n - (i + 1)) = omega arith in
       record {
-        answer = as_number n i (length R) (past_entries text wide (length out₀) at) len (sym past ∙ t.next);
-        output = t.written ∙ ap (λ (x : ℕ). take x R ++ drop x out₀) len ∙ ap (λ (l : List ℕ). l ++ drop (length R) out₀) (take-length R);
-        from = t.from;
-        within = t.within;
-        counts = (fits, sym (length-take-le n out fits));
+        all = rw m (rw t (append_assoc entries (e ∷ []) (entries_of (n - (i + 1)) wide (after_entry wide l))
+            ∙ ap (λ x. entries ++ x) (sym (one_left wide l e s (n - (i + 1)))) ∙ ap (λ k. entries ++ entries_of k wide l) (sym less) ∙ r.all));
+        rest = rw t (sym (one_after wide l e s (n - (i + 1))) ∙ ap (λ k. after_entries k wide l) (sym less) ∙ r.rest);
       }
 
-  pub taken_full : length out ≤ n → AllTaken text wide at out₀ out i n
-  taken_full h =
-      let z : length out₀ - n ≡ 0 = omega (arith, h, t.size) in
-      all (no_room_left text wide i (length out₀ - n) z) (no_room_past text wide i (length out₀ - n) z)
+  pub none_more : (rest : List ℕ) → None ≡ entry_of wide l → rest ≡ l → AreAll n wide l₀ entries rest
+  none_more rest s t = record {
+    value = sym (append-nil entries) ∙ ap (λ x. entries ++ x) (sym (none_left wide l s (n - i))) ∙ r.all;
+    rest = t ∙ sym (none_after wide l s (n - i)) ∙ r.rest;
+  }
 
-  pub taken_end : length text ≤ i → AllTaken text wide at out₀ out i n
-  taken_end h = let z = no_text text wide i h in all (none_left text wide i z (length out₀ - n)) (none_past text wide i z (length out₀ - n))
+  -- n were read
+  pub all_read : n ≤ i → AreAll n wide l₀ entries l
+  unfolding entries_of after_entries
+  all_read h =
+      let none : n - i ≡ 0 = omega arith in
+      record {
+        value = sym (append-nil entries) ∙ ap (λ k. entries ++ entries_of k wide l) (sym none) ∙ r.all;
+        rest = ap (λ k. after_entries k wide l) (sym none) ∙ r.rest;
+      }
 
-  module _ (h : i < length text) (e : ℕ) (ee : e ≡ entry_read text i wide) where
-    pub taken_none : 256 ≤ e → AllTaken text wide at out₀ out i n
-    taken_none s =
-        let z = no_entry text wide i e ee h s in all (none_left text wide i z (length out₀ - n)) (none_past text wide i z (length out₀ - n))
+-- ---- read into lent memory: the entries stand in front of out, and behind them what stood there at first, in out₀
 
-    pub taken_more : n < length out → e < 256 → (j : ℕ) → j ≡ past_entry text i wide → i < j → j ≤ length text → Taken text wide at out₀ (set out n e) j (n + 1)
-    taken_more r s j ej up within =
-        let R = due_entries text wide at out₀ in
-        let k = length out₀ - (n + 1) in
-        let less : length out₀ - n ≡ suc k = omega (arith, r, t.size) in
-        let here : drop n R ≡ e ∷ entries_from text wide k j = t.left ∙ ap (λ (x : ℕ). entries_from text wide x i) less ∙ one_left text wide i e ee h s j ej k in
-        let long : length R - n ≡ suc (length (entries_from text wide k j)) = sym (length-drop n R) ∙ ap length here in
-        let inside : n < length R = omega (arith, long) in
-        let split : get_or R n 0 ∷ drop (suc n) R ≡ e ∷ entries_from text wide k j = sym (drop-cons R n 0 inside) ∙ here in
-        let head : get_or R n 0 ≡ e = ap (λ (l : List ℕ). get_or l 0 0) split in
-        let tail : drop (suc n) R ≡ entries_from text wide k j = ap (λ (l : List ℕ). drop 1 l) split in
-        let front : length (take n R) ≡ n = length-take-le n R t.count in
-        let there : n < length out₀ = omega (arith, r, t.size) in
-        let put : set out n e ≡ take n R ++ e ∷ drop (suc n) out₀ =
-        ap (λ (l : List ℕ). set l n e) (t.written ∙ ap (λ (l : List ℕ). take n R ++ l) (drop-cons out₀ n 0 there))
-        ∙ set_at (take n R) (get_or out₀ n 0) (drop (suc n) out₀) e n front in
-        let one : take (suc n) R ≡ take n R ++ (e ∷ []) = take-suc R n 0 inside ∙ ap (λ (x : ℕ). take n R ++ (x ∷ [])) head in
-        record {
-          from = omega (arith, t.from, up);
-          within = within;
-          room = omega arith;
-          size = length-set out n e ∙ t.size;
-          count = omega arith;
-          left = ap (λ (x : ℕ). drop x R) (add-one n) ∙ tail;
-          next = sym (one_past text wide i e ee h s j ej k) ∙ ap (λ (x : ℕ). past_entries text wide x i) (sym less) ∙ t.next;
-          written = rw (add-one n) (put ∙ sym (append_snoc (take n R) e (drop (suc n) out₀)) ∙ ap (λ (l : List ℕ). l ++ drop (suc n) out₀) (sym one));
-        }
+pub record Stand (n : ℕ) (wide : Bool) (l₀ out₀ out : List ℕ) (i : ℕ) (l : List ℕ) : Type 0 where
+  pub entries : List ℕ
+  pub count : length entries ≡ i
+  pub here : out ≡ entries ++ drop i out₀
+  pub read : AreRead n wide l₀ entries i l
+
+pub stand_none : (n : ℕ) (wide : Bool) (l₀ out₀ : List ℕ) → Stand n wide l₀ out₀ out₀ 0 l₀
+stand_none n wide l₀ out₀ = record { entries = []; count = refl; here = refl; read = record { all = rw sub-zero refl; rest = rw sub-zero refl } }
+
+module _ (n : ℕ) (wide : Bool) (l₀ out₀ out : List ℕ) (i : ℕ) (l : List ℕ) (r : Stand n wide l₀ out₀ out i l) (room : n ≡ length out₀) where
+  pub stand_more : (e : ℕ) (rest : List ℕ) → i < n → Some e ≡ entry_of wide l → rest ≡ after_entry wide l → Stand n wide l₀ out₀ (set out i e) (i + 1) rest
+  stand_more e rest h s t =
+      let d : drop i out₀ ≡ get_or out₀ i 0 ∷ drop (i + 1) out₀ = drop-cons out₀ i 0 (omega arith) ∙ (let q : suc i ≡ i + 1 = omega arith in rw q refl) in
+      record {
+        entries = r.entries ++ e ∷ [];
+        count = length-append r.entries (e ∷ []) ∙ (let c = r.count in omega arith);
+        here =
+            ap (λ x. set x i e) (r.here ∙ ap (λ x. r.entries ++ x) d)
+            ∙ ap (λ k. set (r.entries ++ get_or out₀ i 0 ∷ drop (i + 1) out₀) k e) (sym r.count)
+            ∙ set-append_seam r.entries (get_or out₀ i 0) (drop (i + 1) out₀) e
+            ∙ sym (append_assoc r.entries (e ∷ []) (drop (i + 1) out₀));
+        read = one_more n wide l₀ r.entries i l r.read e (r.entries ++ e ∷ []) rest h s refl t;
+      }
+
+  pub stand_fits : i ≤ n → i ≤ length out
+  stand_fits h = rw r.here (rw length-append (let c = r.count in omega (arith, length-drop i out₀)))
+
+  module _ (rest : List ℕ) (a : AreAll n wide l₀ r.entries rest) where
+    answered : i ≤ n → record { count : i ≡ length (entries_of n wide l₀); out_after : out ≡ entries_of n wide l₀ ++ drop i out₀; fits : i ≤ length out; rest : rest ≡ after_entries n wide l₀ }
+    answered h = record {
+      count = sym r.count ∙ ap (λ x. length x) a.value;
+      out_after = r.here ∙ ap (λ x. x ++ drop i out₀) a.value;
+      fits = stand_fits h;
+      rest = a.rest;
+    }
+
+  pub stand_end : (rest : List ℕ) → i < n → None ≡ entry_of wide l → rest ≡ l
+      → record { count : i ≡ length (entries_of n wide l₀); out_after : out ≡ entries_of n wide l₀ ++ drop i out₀; fits : i ≤ length out; rest : rest ≡ after_entries n wide l₀ }
+  stand_end rest h s t = answered rest (none_more n wide l₀ r.entries i l r.read rest s t) (omega arith)
+
+  pub stand_all : n ≤ i → i ≤ n → (k : ℕ) → k ≡ n
+      → record { count : k ≡ length (entries_of n wide l₀); out_after : out ≡ entries_of n wide l₀ ++ drop k out₀; fits : k ≤ length out; rest : l ≡ after_entries n wide l₀ }
+  stand_all h u k e = let q : i ≡ k = omega arith in rw q at (answered l (all_read n wide l₀ r.entries i l r.read h) u)

@@ -1,5 +1,2 @@
--- Laws of places and numbers in text.
-pub mod Places
-pub mod Digits
+-- Laws of lines of text.
 pub mod Entries
-pub mod Requests

@@ -1,2 +1,2 @@
--- Requests in text.
+-- Definitions of what the functions that read text answer.
 pub mod Lines

@@ -1,139 +1,117 @@
--- What the functions that read text answer. A text is a list of bytes; a place is the number of one of them, or the length. No promise rests on this: it is
--- for the programs.
-use Rattle.std.specs.Prelude.{ℕ, zero, suc, ◌+◌, ◌*◌, ◌-◌, Bool, true, ◌&&◌, not, List, [], ◌∷◌, ◌++◌, length, get_or, drop, eqb, leb, ltb}
-use Rattle.finite.specs.Tests.{pick}
-use Rattle.text.specs.declared.Number.{Number}
-use Rattle.text.specs.declared.Request.{Request}
+-- What a line of text is read as. A line is a list of bytes, and each reader takes what it reads from its front. No promise rests on this: it is for the
+-- programs.
+use Rattle.std.specs.Prelude.{ℕ, zero, suc, ◌+◌, ◌*◌, ◌-◌, Bool, true, false, ◌&&◌, if◌then◌else◌, List, [], ◌∷◌, drop, min, nat_le, nat_lt, ◌==◌, Option, Some, None, is_some}
 
--- ---- Places
+-- ---- Spaces and words
 
--- how many bytes a text begins with that are b
-unfoldable pub leading_bytes : ℕ → List ℕ → ℕ
-leading_bytes b [] = 0
-leading_bytes b (x ∷ l) = pick (eqb x b) (suc (leading_bytes b l)) 0
+-- what follows the spaces in front
+abbrev pub after_spaces : List ℕ → List ℕ
+after_spaces [] = []
+after_spaces (b ∷ l) = if b == 32 then after_spaces l else b ∷ l
 
--- how many bytes it has before the first b
-unfoldable pub up_to : ℕ → List ℕ → ℕ
-up_to b [] = 0
-up_to b (x ∷ l) = pick (eqb x b) 0 (suc (up_to b l))
+-- what follows the word in front: the first space, and all behind it
+abbrev pub after_word : List ℕ → List ℕ
+after_word [] = []
+after_word (b ∷ l) = if b == 32 then b ∷ l else after_word l
 
--- the first place from `at` on that is no space
-unfoldable pub past_spaces : List ℕ → ℕ → ℕ
-past_spaces text at = at + leading_bytes 32 (drop at text)
+-- ---- Digits and numbers
 
--- the first place from `at` on that has b, or the text's length
-unfoldable pub place_with : List ℕ → ℕ → ℕ → ℕ
-place_with text at b = at + up_to b (drop at text)
-
--- the place after the line that `at` stands in
-unfoldable pub past_line : List ℕ → ℕ → ℕ
-past_line text at = pick (ltb (place_with text at 10) (length text)) (place_with text at 10 + 1) (place_with text at 10)
-
--- whether the line ends at a place
-unfoldable pub ends_at : List ℕ → ℕ → Bool
-ends_at text at = pick (ltb at (length text)) (eqb (get_or text at 0) 10) true
-
--- ---- Numbers
-
--- the value of a hexadecimal digit, or 16
-unfoldable pub digit_of : ℕ → ℕ
+-- the value of a hexadecimal digit
+abbrev pub digit_of : ℕ → Option ℕ
 digit_of b =
-    pick (leb 48 b && leb b 57) (b - 48)
-    (pick (leb 65 b && leb b 70) (b - 55)
-    (pick (leb 97 b && leb b 102) (b - 87) 16))
+    if nat_le 48 b && nat_le b 57 then Some (b - 48)
+    else (if nat_le 65 b && nat_le b 70 then Some (b - 55)
+    else (if nat_le 97 b && nat_le b 102 then Some (b - 87)
+    else None))
 
--- a number with one digit more, at most 999
-unfoldable pub with_digit : ℕ → ℕ → ℕ
-with_digit v d = pick (ltb 999 (10 * v + d)) 999 (10 * v + d)
+-- a number with the decimal digit b more, at most 999
+abbrev pub with_decimal : ℕ → ℕ → ℕ
+with_decimal v b = min (10 * v + (b - 48)) 999
 
--- the number v with the decimal digits that a text begins with
-unfoldable pub number_from : ℕ → List ℕ → ℕ
+abbrev pub is_decimal : ℕ → Bool
+is_decimal b = nat_le 48 b && nat_le b 57
+
+-- the number v with the decimal digits in front, and what follows them
+abbrev pub number_from : ℕ → List ℕ → ℕ
 number_from v [] = v
-number_from v (x ∷ l) = pick (leb 10 (digit_of x)) v (number_from (with_digit v (digit_of x)) l)
+number_from v (b ∷ l) = if is_decimal b then number_from (with_decimal v b) l else v
 
--- how many these are
-unfoldable pub decimals : List ℕ → ℕ
-decimals [] = 0
-decimals (x ∷ l) = pick (leb 10 (digit_of x)) 0 (suc (decimals l))
-
--- the number at a place, and the place after it
-unfoldable pub number_at : List ℕ → ℕ → Number
-number_at text at = record { value = number_from 0 (drop at text); next = at + decimals (drop at text) }
+abbrev pub after_number : List ℕ → List ℕ
+after_number [] = []
+after_number (b ∷ l) = if is_decimal b then after_number l else b ∷ l
 
 -- ---- Entries of a table or of a file, of one digit, or of two where they are wide
 
--- the entry at a place, or 256
-unfoldable pub entry_read : List ℕ → ℕ → Bool → ℕ
-entry_read text at wide =
-    pick (leb 16 (digit_of (get_or text at 0))) 256
-    (pick (not wide) (digit_of (get_or text at 0))
-    (pick (leb (length text) (at + 1)) 256
-    (pick (leb 16 (digit_of (get_or text (at + 1) 0))) 256
-    (16 * digit_of (get_or text at 0) + digit_of (get_or text (at + 1) 0)))))
+-- the number of two digits
+abbrev pub digits_of : Option ℕ → Option ℕ → Option ℕ
+digits_of None _ = None
+digits_of (Some h) None = None
+digits_of (Some h) (Some l) = Some (16 * h + l)
 
--- the place after it
-unfoldable pub past_entry : List ℕ → ℕ → Bool → ℕ
-past_entry text at wide = pick (wide && leb (at + 2) (length text)) (at + 2) (at + 1)
+-- the entry in front
+abbrev pub entry_of : Bool → List ℕ → Option ℕ
+entry_of _ [] = None
+entry_of false (b ∷ l) = digit_of b
+entry_of true (b ∷ []) = None
+entry_of true (b ∷ c ∷ l) = digits_of (digit_of b) (digit_of c)
 
--- whether there is one
-unfoldable pub is_entry : List ℕ → ℕ → Bool → Bool
-is_entry text at wide = ltb at (length text) && ltb (entry_read text at wide) 256
+-- what follows it
+abbrev pub after_entry : Bool → List ℕ → List ℕ
+after_entry wide l = drop (if wide then 2 else 1) l
 
--- the entries from a place on, up to what is none, at most n
-unfoldable pub entries_from : List ℕ → Bool → ℕ → ℕ → List ℕ
-entries_from text wide zero at = []
-entries_from text wide (suc n) at = pick (is_entry text at wide) (entry_read text at wide ∷ entries_from text wide n (past_entry text at wide)) []
+-- an entry with those that follow it; none where it is none
+abbrev pub entry_and : Option ℕ → List ℕ → List ℕ
+entry_and None _ = []
+entry_and (Some e) more = e ∷ more
 
--- the place after them
-unfoldable pub past_entries : List ℕ → Bool → ℕ → ℕ → ℕ
-past_entries text wide zero at = at
-past_entries text wide (suc n) at = pick (is_entry text at wide) (past_entries text wide n (past_entry text at wide)) at
+-- the entries in front, up to what is none, at most n
+unfoldable pub entries_of : ℕ → Bool → List ℕ → List ℕ
+entries_of zero wide l = []
+entries_of (suc n) wide l = entry_and (entry_of wide l) (entries_of n wide (after_entry wide l))
 
--- how many there are, at most n, and the place after them
-unfoldable pub count_at : List ℕ → Bool → ℕ → ℕ → Number
-count_at text wide n at = record { value = length (entries_from text wide n at); next = past_entries text wide n at }
-
--- what they leave in an output
-unfoldable pub entries_over : List ℕ → Bool → ℕ → List ℕ → List ℕ
-entries_over text wide at out = entries_from text wide (length out) at ++ drop (length (entries_from text wide (length out) at)) out
+-- what follows them
+unfoldable pub after_entries : ℕ → Bool → List ℕ → List ℕ
+after_entries zero wide l = l
+after_entries (suc n) wide l = if is_some (entry_of wide l) then after_entries n wide (after_entry wide l) else l
 
 -- ---- Lines
 
--- the first number of a line `m s TABLE`, m, with the place after it
-abbrev pub width_at : List ℕ → ℕ → Number
-width_at text at = number_at text (past_spaces text at)
+-- whether a line ends here
+abbrev pub ends : List ℕ → Bool
+ends [] = true
+ends (b ∷ l) = b == 10
 
--- the second, s
-abbrev pub shares_at : List ℕ → ℕ → Number
-shares_at text at = number_at text (past_spaces text (width_at text at).next)
+-- what follows the line in front
+abbrev pub after_line : List ℕ → List ℕ
+after_line [] = []
+after_line (b ∷ l) = if b == 10 then l else after_line l
 
--- where its table starts, and whether an entry has two digits
-abbrev pub table_start : List ℕ → ℕ → ℕ
-table_start text at = past_spaces text (shares_at text at).next
+-- the numbers m and s of a line `m s TABLE`
+abbrev pub width_of : List ℕ → ℕ
+width_of l = number_from 0 (after_spaces l)
 
-abbrev pub wide_at : List ℕ → ℕ → Bool
-wide_at text at = ltb 4 (width_at text at).value
+abbrev pub after_width : List ℕ → List ℕ
+after_width l = after_number (after_spaces l)
 
--- the request of such a line, with room for n entries
-unfoldable pub request_at : List ℕ → ℕ → ℕ → Request
-request_at text at n = record {
-  good = ends_at text (past_spaces text (count_at text (wide_at text at) n (table_start text at)).next);
-  m = (width_at text at).value;
-  s = (shares_at text at).value;
-  count = (count_at text (wide_at text at) n (table_start text at)).value;
-  next = past_line text at;
-}
+abbrev pub shares_of : List ℕ → ℕ
+shares_of l = number_from 0 (after_spaces (after_width l))
 
--- where the bytes of a line `file HEX` start
-abbrev pub bytes_start : List ℕ → ℕ → ℕ
-bytes_start text at = past_spaces text (place_with text at 32)
+-- its part from the table on
+abbrev pub table_part : List ℕ → List ℕ
+table_part l = after_spaces (after_number (after_spaces (after_width l)))
 
--- the request of such a line, with room for n bytes; its m and s are 0
-unfoldable pub file_at : List ℕ → ℕ → ℕ → Request
-file_at text at n = record {
-  good = ends_at text (past_spaces text (count_at text true n (bytes_start text at)).next);
-  m = 0;
-  s = 0;
-  count = (count_at text true n (bytes_start text at)).value;
-  next = past_line text at;
-}
+-- its table, of at most n entries: an entry has two digits where m is above 4
+abbrev pub table_of : ℕ → List ℕ → List ℕ
+table_of n l = entries_of n (nat_lt 4 (width_of l)) (table_part l)
+
+-- what follows the request
+abbrev pub after_request : ℕ → List ℕ → List ℕ
+after_request n l = after_spaces (after_entries n (nat_lt 4 (width_of l)) (table_part l))
+
+-- the bytes of a line `file HEX`, at most n
+abbrev pub file_of : ℕ → List ℕ → List ℕ
+file_of n l = entries_of n true (after_spaces (after_word l))
+
+-- what follows them
+abbrev pub after_file : ℕ → List ℕ → List ℕ
+after_file n l = after_spaces (after_entries n true (after_spaces (after_word l)))

@@ -1,267 +1,192 @@
 // Requests in text, for the programs: a line `m s TABLE`, each entry of the table one hexadecimal digit,
-// or two digits where m is above 4. And the published numbers in words.
+// or two digits where m is above 4; and a line `file HEX`.
 #![tactic(auto)]
 
-mod words;
-
-ghost use Rattle.std.specs.Prelude.{◌+◌, ◌*◌, ◌<◌, ◌≤◌, ◌≡◌, true, length, get_or, eqb};
-ghost use Rattle.io.specs.Counts.{IsPrefixLen};
+ghost use Rattle.std.specs.Prelude.{◌≡◌, ◌<◌, ◌≤◌, ◌++◌, IfSome, List, ℕ, length, drop, is_some, if◌then◌else◌};
 ghost use Rattle.text.specs.Lines.{
-  past_spaces,
-  place_with,
-  past_line,
-  ends_at,
+  after_spaces,
+  after_word,
   digit_of,
-  with_digit,
-  number_at,
-  entry_read,
-  past_entry,
-  count_at,
-  entries_over,
-  wide_at,
-  table_start,
-  request_at,
-  bytes_start,
-  file_at,
+  number_from,
+  after_number,
+  entry_of,
+  after_entry,
+  entries_of,
+  after_entries,
+  ends,
+  after_line,
+  width_of,
+  shares_of,
+  table_of,
+  after_request,
+  file_of,
+  after_file,
 };
 
-pub use words::print_reason;
+use std::marker::Model;
 
-// One line. `good` where it is a request; `next` is the first byte after the line.
-#[derive(Clone, Copy)]
+/// What is left of a line that is read from its front.
+#[derive(Drop)]
+pub struct Line<'a> {
+    rest: &'a [u8],
+}
+
+impl<'a> Model for Line<'a> {
+    ghost Value = { List ℕ };
+
+    ghost view = { λ line. line.rest.now };
+}
+
+/// A table to share: the numbers m and s of a line, and how many entries its table has. The entries stand in lent memory, so that a line is read without
+/// any memory of its own.
+#[derive(Clone, Copy, Debug, PartialEq, Eq)]
 pub struct Request {
-    pub good: bool,
     pub m: usize,
     pub s: usize,
     pub count: usize,
-    pub next: usize,
 }
 
-// A number read from text, and the first byte after it.
-#[derive(Clone, Copy)]
-struct Number {
-    pub value: usize,
-    pub next: usize,
-}
-
-// The value of a hexadecimal digit, or 16.
-fn digit(b: u8) -> usize
-    ensures { (result ≡ digit_of b) × (result ≤ 16) }
+/// The text behind the line in front: nothing where no line ends.
+pub fn behind_line(text: &[u8]) -> &[u8]
+    ensures { result.now ≡ after_line text.now }
 {
-    let x = b as usize;
-    if x < 48 {
-        return 16;
-    }
-    if x <= 57 {
-        return x - 48;
-    }
-    if x < 65 {
-        return 16;
-    }
-    if x <= 70 {
-        return x - 55;
-    }
-    if x < 97 {
-        return 16;
-    }
-    if x <= 102 {
-        return x - 87;
-    }
-    16
-}
-
-// The first byte from `at` on that is no space.
-fn past_spaces(text: &[u8], at: usize) -> usize
-    requires { at ≤ length text.now }
-    ensures { (result ≡ past_spaces text.now at) × (at ≤ result) × (result ≤ length text.now) }
-{
-    let mut i = at;
-    while i < text.len() {
-        if text[i] != 32 {
-            return i;
+    let mut rest = text;
+    while let Some((b, behind)) = rest.split_first() {
+        rest = behind;
+        if *b == b'\n' {
+            break;
         }
-        i += 1;
     }
-    i
+    rest
 }
 
-// The first byte from `at` on that is b, or the text's end.
-fn find(text: &[u8], at: usize, b: u8) -> usize
-    requires { at ≤ length text.now }
-    ensures { (result ≡ place_with text.now at b) × (at ≤ result) × (result ≤ length text.now) }
+// The value of a hexadecimal digit. A byte and not a char, as std's `to_digit` has it: no plainer with casts both ways.
+fn digit(b: u8) -> Option<u8>
+    ensures value { result ≡ digit_of b }
+    ensures small { IfSome result (λ d. d < 16) }
 {
-    let mut i = at;
-    while i < text.len() {
-        if text[i] == b {
-            return i;
+    match b {
+        b'0'..=b'9' => Some(b - b'0'),
+        b'A'..=b'F' => Some(b - b'A' + 10),
+        b'a'..=b'f' => Some(b - b'a' + 10),
+        _ => None,
+    }
+}
+
+impl<'a> Line<'a> {
+    /// The whole of a line.
+    pub fn new(text: &'a [u8]) -> Line<'a>
+        ensures { result ≡ text.now }
+    {
+        Line { rest: text }
+    }
+
+    // Passes the spaces in front. This loop and that of `skip_word` differ in their test alone; one function with the test as a closure is no plainer, as its
+    // contract would have to speak of the closure's answers.
+    fn skip_spaces(&mut self)
+        ensures { self.new ≡ after_spaces self.old }
+    {
+        while let Some((b' ', rest)) = self.rest.split_first() {
+            self.rest = rest;
         }
-        i += 1;
     }
-    i
-}
 
-// The first byte after the line that `at` stands in.
-fn past_line(text: &[u8], at: usize) -> usize
-    requires { at < length text.now }
-    ensures { (result ≡ past_line text.now at) × (at < result) × (result ≤ length text.now) }
-{
-    let i = find(text, at, 10);
-    if i < text.len() {
-        return i + 1;
-    }
-    i
-}
-
-// A decimal number, at most 999; a longer one is 999.
-fn read_number(text: &[u8], at: usize) -> Number
-    requires { at ≤ length text.now }
-    ensures { (result ≡ number_at text.now at) × (at ≤ result.next) × (result.next ≤ length text.now) }
-{
-    let mut i = at;
-    let mut value: usize = 0;
-    while i < text.len() {
-        let d = digit(text[i]);
-        if 10 <= d {
-            return Number { value, next: i };
+    // Takes the decimal number in front, at most 999; a longer one is 999, and none is 0.
+    fn number(&mut self) -> usize
+        ensures value { result ≡ number_from 0 self.old }
+        ensures rest { self.new ≡ after_number self.old }
+    {
+        let mut value = 0;
+        while let Some((b @ b'0'..=b'9', rest)) = self.rest.split_first() {
+            value = (10 * value + usize::from(*b - b'0')).min(999);
+            self.rest = rest;
         }
-        value = capped(value, d);
-        i += 1;
+        value
     }
-    Number { value, next: i }
-}
 
-// A number with one digit more, at most 999.
-fn capped(value: usize, d: usize) -> usize
-    requires { (value ≤ 999) × (d ≤ 16) }
-    ensures { (result ≡ with_digit value d) × (result ≤ 999) }
-{
-    let x = 10 * value + d;
-    if 999 < x {
-        return 999;
-    }
-    x
-}
-
-// One entry, of one digit or of two, or 256 where it is no entry.
-fn entry_at(text: &[u8], at: usize, wide: bool) -> usize
-    requires { at < length text.now }
-    ensures { (result ≡ entry_read text.now at wide) × (result ≤ 256) }
-{
-    let high = digit(text[at]);
-    if 16 <= high {
-        return 256;
-    }
-    if !wide {
-        return high;
-    }
-    if text.len() <= at + 1 {
-        return 256;
-    }
-    let low = digit(text[at + 1]);
-    if 16 <= low {
-        return 256;
-    }
-    16 * high + low
-}
-
-// Reads entries into `out`, from `at` up to the first byte that is none, as many as it has room for; answers how many, and the
-// byte after them.
-fn read_entries(text: &[u8], at: usize, wide: bool, out: &mut [u8]) -> Number
-    requires { at ≤ length text.now }
-    ensures value { result ≡ count_at text.now wide (length out.old) at }
-    ensures out_after { out.new ≡ entries_over text.now wide at out.old }
-    ensures at_le_next { (at ≤ result.next) × (result.next ≤ length text.now) × IsPrefixLen result.value out.new }
-{
-    let mut i = at;
-    let mut n: usize = 0;
-    while i < text.len() {
-        if out.len() <= n {
-            return Number { value: n, next: i };
+    // Passes the word in front, up to the first space.
+    fn skip_word(&mut self)
+        ensures { self.new ≡ after_word self.old }
+    {
+        while let Some((b, rest)) = self.rest.split_first() {
+            if *b == b' ' {
+                break;
+            }
+            self.rest = rest;
         }
-        let e = entry_at(text, i, wide);
-        if 256 <= e {
-            return Number { value: n, next: i };
+    }
+
+    // Takes the entry in front, of one digit, or of two where entries are wide. That is a property of the line's width, read once: a flag, and no step
+    // that is switched.
+    fn entry(&mut self, wide: bool) -> Option<u8>
+        ensures value { result ≡ entry_of wide self.old }
+        ensures rest { self.new ≡ (if is_some result then after_entry wide self.old else self.old) }
+    {
+        let (entry, rest) = match self.rest {
+            [high, low, rest @ ..] if wide => (16 * digit(*high)? + digit(*low)?, rest),
+            [only, rest @ ..] if !wide => (digit(*only)?, rest),
+            _ => return None,
+        };
+        self.rest = rest;
+        Some(entry)
+    }
+
+    // Takes the entries in front, up to what is none, as many as there is room for, and answers how many.
+    fn entries(&mut self, wide: bool, out: &mut [u8]) -> usize
+        ensures count { result ≡ length (entries_of (length out.old) wide self.old) }
+        ensures out_after { out.new ≡ entries_of (length out.old) wide self.old ++ drop result out.old }
+        ensures fits { result ≤ length out.new }
+        ensures rest { self.new ≡ after_entries (length out.old) wide self.old }
+    {
+        for i in 0..out.len() {
+            match self.entry(wide) {
+                Some(entry) => out[i] = entry,
+                None => return i,
+            }
         }
-        out[n] = e as u8;
-        n += 1;
-        i = stepped(text, i, wide);
+        out.len()
     }
-    Number { value: n, next: i }
-}
 
-// The byte after an entry.
-fn stepped(text: &[u8], at: usize, wide: bool) -> usize
-    requires { at < length text.now }
-    ensures { (result ≡ past_entry text.now at wide) × (at < result) × (result ≤ length text.now) }
-{
-    if !wide {
-        return at + 1;
+    /// Whether nothing is left of the line.
+    pub fn is_at_end(&self) -> bool
+        ensures { result ≡ ends self.now }
+    {
+        match self.rest {
+            [] => true,
+            [b, ..] => *b == b'\n',
+        }
     }
-    if text.len() < at + 2 {
-        return at + 1;
+
+    /// Takes the request `m s TABLE` in front, and the spaces behind it; its entries go to `table`. A number that is left out is 0, one above 999 is 999.
+    pub fn request(&mut self, table: &mut [u8]) -> Request
+        ensures m { result.m ≡ width_of self.old }
+        ensures s { result.s ≡ shares_of self.old }
+        ensures count { result.count ≡ length (table_of (length table.old) self.old) }
+        ensures table_after { table.new ≡ table_of (length table.old) self.old ++ drop result.count table.old }
+        ensures fits { result.count ≤ length table.new }
+        ensures rest { self.new ≡ after_request (length table.old) self.old }
+    {
+        self.skip_spaces();
+        let m = self.number();
+        self.skip_spaces();
+        let s = self.number();
+        self.skip_spaces();
+        let count = self.entries(4 < m, table);
+        self.skip_spaces();
+        Request { m, s, count }
     }
-    at + 2
-}
 
-// Whether the line ends at `at`.
-fn ends(text: &[u8], at: usize) -> bool
-    requires { at ≤ length text.now }
-    ensures { result ≡ ends_at text.now at }
-{
-    if at < text.len() {
-        return text[at] == 10;
-    }
-    true
-}
-
-// The request of the line at `at`; its entries go to `table`.
-pub fn read_request(text: &[u8], at: usize, table: &mut [u8]) -> Request
-    requires { at < length text.now }
-    ensures value { result ≡ request_at text.now at (length table.old) }
-    ensures table_after { table.new ≡ entries_over text.now (wide_at text.now at) (table_start text.now at) table.old }
-    ensures at_lt_next { (at < result.next) × (result.next ≤ length text.now) × IsPrefixLen result.count table.new }
-{
-    let from = past_spaces(text, at);
-    let m = read_number(text, from);
-    let mid = past_spaces(text, m.next);
-    let s = read_number(text, mid);
-    let start = past_spaces(text, s.next);
-    let e = read_entries(text, start, 4 < m.value, table);
-    let end = past_spaces(text, e.next);
-    let good = ends(text, end);
-    Request {
-        good,
-        m: m.value,
-        s: s.value,
-        count: e.value,
-        next: past_line(text, at),
-    }
-}
-
-// Whether the byte at `at` is this letter.
-pub fn letter_at(text: &[u8], at: usize, letter: u8) -> bool
-    requires { at < length text.now }
-    ensures { result ≡ eqb (get_or text.now at 0) letter }
-{
-    text[at] == letter
-}
-
-// The file of the line `file HEX` at `at`; its bytes go to `out`.
-pub fn read_file(text: &[u8], at: usize, out: &mut [u8]) -> Request
-    requires { at < length text.now }
-    ensures value { result ≡ file_at text.now at (length out.old) }
-    ensures out_after { out.new ≡ entries_over text.now true (bytes_start text.now at) out.old }
-    ensures at_lt_next { (at < result.next) × (result.next ≤ length text.now) × IsPrefixLen result.count out.new }
-{
-    let start = past_spaces(text, find(text, at, b' '));
-    let e = read_entries(text, start, true, out);
-    let end = past_spaces(text, e.next);
-    let good = ends(text, end);
-    Request {
-        good,
-        m: 0,
-        s: 0,
-        count: e.value,
-        next: past_line(text, at),
+    /// Takes the bytes of a line `file HEX`, and the spaces behind them; the bytes go to `out`. Answers how many they are.
+    pub fn file(&mut self, out: &mut [u8]) -> usize
+        ensures count { result ≡ length (file_of (length out.old) self.old) }
+        ensures out_after { out.new ≡ file_of (length out.old) self.old ++ drop result out.old }
+        ensures fits { result ≤ length out.new }
+        ensures rest { self.new ≡ after_file (length out.old) self.old }
+    {
+        self.skip_word();
+        self.skip_spaces();
+        let count = self.entries(true, out);
+        self.skip_spaces();
+        count
     }
 }

@@ -1,152 +1,93 @@
--- The functions of `engine` at each way out and for a turn, over plain values: f is a file that y describes, t one of its stages, j a component.
+-- The functions of `engine` at each way out and for a turn, over plain values: ls are lists, t is a stage of a file f, j a component.
 -- Lists are read from the last down: each step adds the value of one list below those so far, and the last step gives the output of all.
 -- Assumes nothing.
-use mathlib.Core.Path.{◌≡◌, refl, sym, ap, ◌∙◌}
+use mathlib.Core.Path.{◌≡◌, sym, ap, ◌∙◌}
 use mathlib.Core.List.{List, []}
 use Prim.Native.Nat.{ℕ, ◌+◌, ◌-◌, ◌*◌, ◌/◌, ◌^◌, ◌≤◌, ◌<◌}
 use native.Mathlib.Nat.{lt_of_lt_of_le, mul-le-mul_left, mul-suc}
 use native.Mathlib.Omega.{arith}
 use lib.Bits.{bit_and, bit_xor, xor_zero_r}
+use Rattle.finite.proofs.Xor.{xor_and}
 use lib.Pow.{pow_mono, pow_pos}
-use lib.ListN.{length, get_or, drop, length-drop}
-use borrow.Rule.Slice.Know.{Fit}
-use borrow.Table.Referent.{f_int}
-use mir.Syntax.{w8, w64}
+use lib.ListN.{length, get_or, take, drop, length-drop}
+use lib.Seq.{length-take-le}
+use mathlib.Core.Bool.{false}
+use mir.Syntax.{w32, w64}
 use mir.Val.{Fits}
 use Rattle.anf.specs.Terms.{value_at}
 use Rattle.anf.proofs.Terms.{value_at_lt}
-use Rattle.design.specs.Limits.{greatest_width, greatest_share_bits, greatest_records}
+use Rattle.design.specs.Limits.{greatest_width, greatest_share_bits, broken}
 use Rattle.design.specs.Design.{stage_of}
-use Rattle.design.specs.Reading.{meaning, number_of}
+use Rattle.design.specs.Reading.{meaning}
 use Rattle.design.specs.Inside.Described.{Describes}
-use Rattle.records.specs.Inside.Terms.{terms}
-use Rattle.design.specs.Inside.StageLists.{body_at, Inside, AllInside, lists_of}
-use Rattle.design.specs.declared.Layout.{Layout}
-use Rattle.design.proofs.Answered.{described}
-use Rattle.design.proofs.StageLists.{lists_of_length, lists_of_at, lists_inside, lists_known, lists_are}
+use Rattle.design.specs.Heads.{laid}
+use Rattle.design.specs.declared.heads.Head as heads
+use Rattle.design.proofs.Limits.{bounds}
+use Rattle.design.proofs.StageLists.{lists_length}
 use Rattle.threshold.specs.Sharing.{sum}
 use Rattle.threshold.specs.Stages.{output, component}
 use Rattle.threshold.proofs.Sharing.{sum_none, sum_step, sum_lt}
 use Rattle.threshold.proofs.Output.{output_lt, output_none, output_next, output_share}
 
--- ---- `bit_at`
+-- ---- `output_of`: y is the output of the lists from the i-th on
 
-pub bit_is : (l b : List ℕ) (x v : ℕ) → v ≡ value_at (terms b) x → b ≡ l → v ≡ value_at (terms l) x
-bit_is l b x v e is = e ∙ ap (λ (a : List ℕ). value_at (terms a) x) is
+pub record OutputFrom (ls : List (List ℕ)) (x i y : ℕ) : Type 0 where
+  pub value : y ≡ output (drop i ls) x
+  pub small : y < 2 ^ greatest_share_bits
 
-pub bit_small : (b : List ℕ) (x v : ℕ) → v ≡ value_at (terms b) x → v < 2
-bit_small b x v e = omega (arith, value_at_lt (terms b) x)
+module _ (ls : List (List ℕ)) (x n : ℕ) (en : n ≡ length ls) where
+  some_lt : (i : ℕ) → output (drop i ls) x < 2 ^ length ls
+  some_lt i = let k = length-drop i ls in lt_of_lt_of_le (output_lt (drop i ls) x) (pow_mono (omega arith))
 
--- ---- `output_of`
+  from_value : n ≤ greatest_share_bits → (i y : ℕ) → y ≡ output (drop i ls) x → OutputFrom ls x i y
+  from_value few i y e = record { value = e; small = rw e (lt_of_lt_of_le (some_lt i) (pow_mono {j = greatest_share_bits} (omega arith))) }
 
-module _ (f starts : List ℕ) (first n x : ℕ) where
-  -- at the place `at` of the starts, the start `next` stands there, and y is the output of the lists from there on
-  pub record OutputFrom (at next y : ℕ) : Type 0 where
-    pub i : ℕ
-    pub index : at ≡ first + i
-    pub most : i ≤ n
-    pub start : next ≡ get_or starts at 0
-    pub value : y ≡ output (drop i (lists_of f starts first n)) x
-    pub small : y < 2 ^ greatest_share_bits
+  pub from_start : n ≤ greatest_share_bits → OutputFrom ls x n 0
+  from_start few = from_value few n 0 (sym (output_none x ls) ∙ ap (λ (k : ℕ). output (drop k ls) x) (sym en))
 
-  some_lt : (i : ℕ) → output (drop i (lists_of f starts first n)) x < 2 ^ n
-  some_lt i =
-      let e = lists_of_length f starts first n in
-      let k = length-drop i (lists_of f starts first n) in
-      lt_of_lt_of_le (output_lt (drop i (lists_of f starts first n)) x) (pow_mono (omega arith))
+  module _ (i y : ℕ) (w : OutputFrom ls x i y) (ts : List ℕ) (v : ℕ) (ev : v ≡ value_at ts x) where
+    pub from_fits : Fits w32 (2 * y + v)
+    from_fits = record { fits = omega (arith, w.small, value_at_lt ts x) }
 
-  some_small : n ≤ greatest_share_bits → (i y : ℕ) → y ≡ output (drop i (lists_of f starts first n)) x → y < 2 ^ greatest_share_bits
-  some_small h i y e = rw e (lt_of_lt_of_le (some_lt i) (pow_mono {j = greatest_share_bits} h))
+    pub from_more : n ≤ greatest_share_bits → 0 < i → i ≤ n → ts ≡ get_or ls (i - 1) [] → OutputFrom ls x (i - 1) (2 * y + v)
+    from_more few low high eb =
+        let o = output_next x (i - 1) ls (omega arith) in
+        let j : i - 1 + 1 ≡ i = omega arith in
+        let q : output (drop (i - 1 + 1) ls) x ≡ y = rw j (sym w.value) in
+        let r : value_at (get_or ls (i - 1) []) x ≡ v = ap (λ (l : List ℕ). value_at l x) (sym eb) ∙ sym ev in
+        from_value few (i - 1) (2 * y + v) (omega arith)
 
-  pub from_start : n ≤ greatest_share_bits → OutputFrom (first + n) (get_or starts (first + n) 0) 0
-  from_start h =
-      let ls = lists_of f starts first n in
-      let e : 0 ≡ output (drop n ls) x = sym (output_none x ls) ∙ ap (λ (k : ℕ). output (drop k ls) x) (lists_of_length f starts first n) in
-      record { i = n; index = refl; most = omega arith; start = refl; value = e; small = some_small h n 0 e }
+  module _ (i y : ℕ) (w : OutputFrom ls x i y) (h : i ≤ 0) where
+    pub from_end : y ≡ output ls x
+    from_end = let z : i ≡ 0 = omega arith in w.value ∙ ap (λ (k : ℕ). output (drop k ls) x) z
 
-  module _ (at next y : ℕ) (w : OutputFrom at next y) where
-    pub from_lt : y < 2 ^ n
-    from_lt = rw w.value (some_lt w.i)
+    pub from_lt : y < 2 ^ length ls
+    from_lt = rw w.value (some_lt i)
 
-    pub from_end : at ≤ first → y ≡ output (lists_of f starts first n) x
-    from_end h =
-        let z : w.i ≡ 0 = (let p = w.index in omega arith) in
-        w.value ∙ ap (λ (k : ℕ). output (drop k (lists_of f starts first n)) x) z
+-- ---- `component_at`: the m lists from m × j on
 
-    -- the list before it
-    module _ (h : first < at) where
-      before : first + (w.i - 1) ≡ at - 1
-      before = let p = w.index in omega arith
+module _ (h : heads.Head) (l : broken h.m h.s h.k ≡ false) (j : ℕ) (u : j < h.s) where
+  part_before : h.m * j + h.m ≤ h.m * h.s
+  part_before = let e = mul-le-mul_left h.m u in let q = mul-suc h.m j in omega arith
 
-      here : first + (w.i - 1) + 1 ≡ at
-      here = let p = w.index in omega arith
+  pub before_fits : Fits w64 (h.m * j)
+  before_fits = record { fits = omega (arith, part_before, (bounds h.m h.s h.k l).bits) }
 
-      inside : w.i - 1 < n
-      inside = let p = w.index in let m = w.most in omega arith
+  module _ (f starts : List ℕ) (d : Describes f (laid h starts)) (t : ℕ) (k : t < h.k) (ls : List (List ℕ)) (e : ls ≡ (stage_of (meaning f) t).lists) where
+    pub part_within : h.m * j + h.m ≤ length ls
+    part_within = omega (arith, part_before, ap (λ (x : List (List ℕ)). length x) e, lists_length f (laid h starts) d t k)
 
-      pub from_inside : AllInside f starts first n → Inside f (get_or starts (at - 1) 0) next
-      from_inside l = rw (w.start, sym before) (moved (l (w.i - 1) inside))
-        where
-          moved : Inside f (get_or starts (first + (w.i - 1)) 0) (get_or starts (first + (w.i - 1) + 1) 0) → Inside f (get_or starts (first + (w.i - 1)) 0) (get_or starts at 0)
-          moved k = rw (sym here) k
+    module _ (part : List (List ℕ)) (q : part ≡ take h.m (drop (h.m * j) ls)) (r x : ℕ) where
+      pub component_found : r ≡ output part x → r ≡ component h.m (stage_of (meaning f) t).lists j x
+      component_found o =
+          o ∙ ap (λ (y : List (List ℕ)). output y x) (q ∙ ap (λ (y : List (List ℕ)). take h.m (drop (h.m * j) y)) e)
+          ∙ sym (output_share x h.m j (stage_of (meaning f) t).lists)
 
-      -- is the list that stands from the place before on
-      pub from_list : get_or (lists_of f starts first n) (w.i - 1) [] ≡ terms (body_at f (get_or starts (at - 1) 0) next)
-      from_list =
-          lists_of_at f starts first n (w.i - 1) inside
-          ∙ ap (λ (a : ℕ). terms (body_at f (get_or starts a 0) (get_or starts (first + (w.i - 1) + 1) 0))) before
-          ∙ ap (λ (a : ℕ). terms (body_at f (get_or starts (at - 1) 0) (get_or starts a 0))) here
-          ∙ ap (λ (a : ℕ). terms (body_at f (get_or starts (at - 1) 0) a)) (sym w.start)
-
-      pub from_more : n ≤ greatest_share_bits → (v : ℕ) → v ≡ value_at (terms (body_at f (get_or starts (at - 1) 0) next)) x
-          → OutputFrom (at - 1) (get_or starts (at - 1) 0) (2 * y + v)
-      from_more few v e =
-          let ls = lists_of f starts first n in
-          let k = lists_of_length f starts first n in
-          let j : w.i - 1 + 1 ≡ w.i = (let p = w.index in omega arith) in
-          let o = output_next x (w.i - 1) ls (rw k inside) in
-          let q : output (drop (w.i - 1 + 1) ls) x ≡ y = rw j (sym w.value) in
-          let r : value_at (get_or ls (w.i - 1) []) x ≡ v = rw from_list (sym e) in
-          let o' : 2 * y + v ≡ output (drop (w.i - 1) ls) x = omega arith in
-          record {
-            i = w.i - 1;
-            index = sym before;
-            most = (let m = inside in omega arith);
-            start = refl;
-            value = o';
-            small = some_small few (w.i - 1) (2 * y + v) o';
-          }
-
--- ---- `component_at`
-
-module _ (f : List ℕ) (y : Layout) (d : Describes f y) where
-  pub few_lists : y.head.m ≤ greatest_share_bits
-  few_lists = omega (arith, (described d).bounds.m_high)
-
-  module _ (j : ℕ) (h : j < y.head.s) where
-    lists_before : y.head.m * j + y.head.m ≤ y.head.m * y.head.s
-    lists_before = let e = mul-le-mul_left y.head.m h in let q = mul-suc y.head.m j in omega arith
-
-    pub first_within : y.head.m * j + 1 ≤ y.head.m * y.head.s
-    first_within = omega (arith, lists_before, (described d).bounds.m_low)
-
-    pub before_fits : Fits w64 (y.head.m * j)
-    before_fits = record { fits = omega (arith, lists_before, (described d).bounds.bits) }
-
-    pub first_fits : Fits w64 (y.head.m * j + 1)
-    first_fits = record { fits = omega (arith, lists_before, (described d).bounds.bits) }
-
-    module _ (t : ℕ) (u : t < y.head.k) (first : ℕ) (e : first ≡ number_of y.head t (y.head.m * j + 1)) (bytes : Fit (f_int w8) 0 f) where
-      pub component_inside : AllInside f y.starts first y.head.m
-      component_inside = lists_inside f (λ i. omega (arith, bytes i)) y d t u (y.head.m * j) y.head.m first lists_before e
-
-      pub component_known : length y.starts ≡ greatest_records → first + y.head.m < length y.starts
-      component_known k = rw k (lists_known f (λ i. omega (arith, bytes i)) y d t u (y.head.m * j) y.head.m first lists_before e)
-
-      pub component_found : (r x : ℕ) → r ≡ output (lists_of f y.starts first y.head.m) x → r ≡ component y.head.m (stage_of (meaning f) t).lists j x
-      component_found r x q =
-          q ∙ ap (λ (l : List (List ℕ)). output l x) (lists_are f (λ i. omega (arith, bytes i)) y d t u (y.head.m * j) y.head.m first lists_before e)
-          ∙ sym (output_share x y.head.m j (stage_of (meaning f) t).lists)
+      pub component_lt : r < 2 ^ length part → r < 2 ^ h.m
+      component_lt o =
+          let n : length part ≡ h.m =
+          ap (λ (y : List (List ℕ)). length y) q ∙ length-take-le h.m (drop (h.m * j) ls) (rw (length-drop (h.m * j) ls) (omega (arith, part_within))) in
+          rw n at o
 
 -- ---- `share_mask`: p is the number of values of a share
 
@@ -157,17 +98,21 @@ module _ (m p : ℕ) (e : p ≡ 2 ^ m) where
   pub mask_fits : m ≤ greatest_width → p - 1 < 2 ^ 32
   mask_fits h = let q : 2 ^ m ≤ 2 ^ greatest_width = pow_mono h in omega arith
 
--- ---- `sum_of`: total is the sum of the shares passed, rest holds those left
+-- ---- `sum_of`: the lowest bits of total are the sum of the i shares passed, rest holds those left
 
-module _ (w s x total rest left : ℕ) (e : bit_xor total (sum w left rest) ≡ sum w s x) where
-  pub sum_more : (k : ℕ) → k < left → (mask : ℕ) → mask ≡ 2 ^ w - 1 → bit_xor (bit_xor total (bit_and rest mask)) (sum w (left - 1) (rest / 2 ^ w)) ≡ sum w s x
-  sum_more k h mask q = rw q (sum_step w left total rest (sum w s x) (omega arith) e)
+module _ (w s x total rest i : ℕ) (e : bit_xor (bit_and total (2 ^ w - 1)) (sum w (s - i) rest) ≡ sum w s x) where
+  pub sum_more : i < s → bit_xor (bit_and (bit_xor total rest) (2 ^ w - 1)) (sum w (s - (i + 1)) (rest / 2 ^ w)) ≡ sum w s x
+  sum_more h =
+      let z : s - (i + 1) ≡ s - i - 1 = omega arith in
+      rw (z, xor_and) (sum_step w (s - i) (bit_and total (2 ^ w - 1)) rest (sum w s x) (omega arith) e)
 
-  module _ (h : left ≤ 0) where
-    pub sum_end : total ≡ sum w s x
+  module _ (h : s ≤ i) (mask : ℕ) (q : mask ≡ 2 ^ w - 1) where
+    pub sum_end : bit_and total mask ≡ sum w s x
     sum_end =
-        let z : left ≡ 0 = omega arith in
-        sym (xor_zero_r total) ∙ ap (bit_xor total) (sym (sum_none w rest) ∙ ap (λ (k : ℕ). sum w k rest) (sym z)) ∙ e
+        let z : s - i ≡ 0 = omega arith in
+        ap (bit_and total) q
+        ∙ sym (xor_zero_r (bit_and total (2 ^ w - 1))) ∙ ap (bit_xor (bit_and total (2 ^ w - 1))) (sym (sum_none w rest) ∙ ap (λ (k : ℕ). sum w k rest) (sym z))
+        ∙ e
 
-    pub sum_small : total < 2 ^ w
+    pub sum_small : bit_and total mask < 2 ^ w
     sum_small = rw sum_end (sum_lt w s x)

@@ -11,7 +11,7 @@ use Rattle.design.specs.Limits.{greatest_shares}
 use Rattle.design.specs.Design.{Stage, Design, no_stage}
 use Rattle.design.specs.Reading.{Reading, refused, means, reading, meaning}
 use Rattle.design.specs.Inside.Described.{Describes}
-use Rattle.design.specs.declared.Layout.{Layout}
+use Rattle.design.specs.Layout.{Layout}
 use Rattle.design.proofs.Answered.{described}
 use Rattle.threshold.specs.Stages.{output}
 use Rattle.threshold.specs.Chain.{handed}

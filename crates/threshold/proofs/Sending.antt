@@ -3,27 +3,32 @@
 use mathlib.Core.Path.{◌≡◌, refl, sym, ap, ap₂, ◌∙◌, subst}
 use mathlib.Core.Bool.{Bool, true, false, not}
 use mathlib.Core.List.{List, ◌++◌}
-use Prim.Native.Nat.{ℕ, ◌+◌, ◌*◌, ◌^◌, ◌≤◌, ◌<◌}
+use Prim.Native.Nat.{ℕ, ◌+◌, ◌*◌, ◌%◌, ◌^◌, ◌≤◌, ◌<◌}
 use native.Mathlib.Nat.{mul-le-mul_left}
 use native.Mathlib.Omega.{arith}
 use lib.Dec.{eqb, ltb}
-use lib.Pow.{pow_mono}
+use lib.Pow.{pow_mono, shl_exact}
 use lib.ListN.{length, get_or, set, drop}
 use borrow.Author.Tests.{lt-ltb, le-ltb, not-true, not-false}
 use mir.Syntax.{w8, w32, w64}
 use mir.Val.{Fits}
-use Rattle.finite.specs.Tests.{all, tabulate}
-use Rattle.finite.proofs.Testing.{all_more, all_fails, tabulate_more}
-use Rattle.design.specs.Limits.{greatest_width, greatest_shares, greatest_share_bits}
+use Rattle.finite.specs.Tests.{tabulate}
+use Rattle.finite.proofs.Testing.{all_intro, all_fails, tabulate_more}
+use Rattle.reasons.specs.Numbers.{number}
+use Rattle.reasons.specs.declared.Reason.{Reason}
+use Rattle.reasons.proofs.Numbers.{number_some}
+use Rattle.design.specs.Limits.{greatest_width, greatest_shares, broken}
+use Rattle.design.specs.Heads.{laid_by}
 use Rattle.design.specs.Design.{stage_of}
 use Rattle.design.specs.Reading.{meaning}
-use Rattle.design.specs.Layout.{layout_of}
+use Rattle.design.specs.Layout.{refused_layout, layout_of}
 use Rattle.design.specs.Inside.Described.{Describes}
-use Rattle.design.specs.declared.Layout.{Layout}
-use Rattle.design.proofs.Answered.{answers_described, refuses}
-use Rattle.design.proofs.Found.{width_high, shares_high}
+use Rattle.design.proofs.Answered.{refuses}
+use Rattle.design.proofs.Found.{limits}
+use Rattle.design.proofs.Limits.{bounds}
 use Rattle.design.proofs.StageLists.{stages_length, lists_length}
 use Rattle.threshold.specs.Stages.{output, component}
+use Rattle.threshold.specs.Inside.Outcomes.{finished}
 use Rattle.threshold.specs.Running.{packed, unpacked, share_fits, shares_fit, five_zeros, refused_run, running}
 use Rattle.threshold.specs.declared.Ran.{Ran}
 use Rattle.threshold.proofs.Packing.{share_fits_lem, packed_none, packed_next, packed_lt, packed_small, unpacked_filled}
@@ -40,52 +45,58 @@ module _ (w s j v : ℕ) where
   unfolding share_fits
   share_unused h = rw (le-ltb j s h) refl
 
--- ---- `shares_fit`: the shares below j fit; r is whether share j does
+-- ---- `shares_fit`: r is whether each share fits
 
-pub record FitBelow (w s : ℕ) (l : List ℕ) (j : ℕ) : Type 0 where
-  pub so : all j (λ i. share_fits w s i (get_or l i 0)) ≡ true
+pub shares_fit_is : (w s : ℕ) (l : List ℕ) (r : Bool) → (r ≡ true → (j : ℕ) → j < greatest_shares → share_fits w s j (get_or l j 0) ≡ true)
+    → (r ≡ false → (j : ℕ) × (j < greatest_shares) × (share_fits w s j (get_or l j 0) ≡ false)) → r ≡ shares_fit w s l
+unfolding shares_fit
+shares_fit_is w s l true fit unfit = sym (all_intro greatest_shares _ (fit refl))
+shares_fit_is w s l false fit unfit = let (j, h, e) = unfit refl in sym (all_fails greatest_shares _ j h e)
 
-module _ (w s : ℕ) (l : List ℕ) where
-  pub fit_start : FitBelow w s l 0
-  unfolding all
-  fit_start = record { so = refl }
-
-  pub fit_end : (j : ℕ) → FitBelow w s l j → j ≤ greatest_shares → greatest_shares ≤ j → true ≡ shares_fit w s l
-  unfolding shares_fit
-  fit_end j h a b = let z : j ≡ greatest_shares = omega arith in sym (rw z at h.so)
-
-  module _ (j : ℕ) (r : Bool) (e : r ≡ share_fits w s j (get_or l j 0)) where
-    pub fit_fails : not r ≡ true → j < greatest_shares → false ≡ shares_fit w s l
-    unfolding shares_fit
-    fit_fails q h = sym (all_fails greatest_shares _ j h (sym e ∙ not-true r q))
-
-    pub fit_more : not r ≡ false → FitBelow w s l j → FitBelow w s l (j + 1)
-    fit_more q h = record { so = all_more j _ h.so (sym e ∙ not-false r q) }
-
--- ---- `pack`: x is the sharing of the shares below j, v the next in its place
+-- ---- `pack`: x is the sharing of the shares below j, v the next
 
 pub pack_start : (w : ℕ) (l : List ℕ) → 0 ≡ packed w 0 l
 pack_start w l = sym (packed_none w l)
 
-module _ (w s j : ℕ) (h : j < s) (b : w * s ≤ greatest_share_bits) where
-  pub place_within : w * j ≤ greatest_share_bits
-  place_within = let q : w * j ≤ w * s = mul-le-mul_left w (omega arith) in omega arith
+module _ (m s k : ℕ) (limits : broken m s k ≡ false) where
+  few : s ≤ greatest_shares
+  few = (bounds m s k limits).s_high
 
-  pub place_fits : Fits w64 (w * j)
-  place_fits = record { fits = omega (arith, place_within) }
+  module _ (j : ℕ) (h : j < s) where
+    pub place_of_five : j < greatest_shares
+    place_of_five = omega (arith, few)
 
-  pub pack_fits : s ≤ greatest_shares → (l : List ℕ) → shares_fit w s l ≡ true → (x v : ℕ) → x ≡ packed w j l → v ≡ get_or l j 0 * 2 ^ (w * j) → Fits w32 (x + v)
-  pack_fits hs l e x v ex ev = record { fits = omega (arith, packed_small w s l b hs e (j + 1) (omega arith), packed_next w j l) }
+    low : m * j ≤ m * s
+    low = mul-le-mul_left m (omega arith)
 
-pub pack_more : (w j x v : ℕ) (l : List ℕ) → x ≡ packed w j l → v ≡ get_or l j 0 * 2 ^ (w * j) → x + v ≡ packed w (j + 1) l
-pack_more w j x v l ex ev = ap₂ ◌+◌ ex ev ∙ sym (packed_next w j l)
+    pub shift_small : m * j < 32
+    shift_small = omega (arith, low, (bounds m s k limits).bits)
 
-module _ (w s x j : ℕ) (l : List ℕ) (a : j ≤ s) (b : s ≤ j) (e : x ≡ packed w j l) where
-  pub pack_end : x ≡ packed w s l
-  pack_end = let z : j ≡ s = omega arith in rw z at e
+    pub shift_number : Fits w64 (m * j)
+    shift_number = record { fits = omega (arith, shift_small) }
 
-  pub pack_small : s ≤ greatest_shares → shares_fit w s l ≡ true → x < 2 ^ (w * s)
-  pack_small hs u = rw pack_end (packed_lt w s l (share_fits_lem w s l u hs))
+    pub shift_fits : Fits w32 (m * j)
+    shift_fits = record { fits = omega (arith, shift_small) }
+
+  module _ (j : ℕ) (h : j < s) (x v : ℕ) (l : List ℕ) (byte : Fits w8 (get_or l j 0)) (ex : x ≡ packed m j l) (ev : v ≡ get_or l j 0) where
+    -- the shift loses no bit
+    placed : v * 2 ^ (m * j) % 2 ^ 32 ≡ get_or l j 0 * 2 ^ (m * j)
+    placed =
+        let q : m * j ≤ m * s = mul-le-mul_left m (omega arith) in
+        rw ev (shl_exact 8 (m * j) 32 (omega (arith, byte.fits)) (omega (arith, (bounds m s k limits).bits)))
+
+    pub pack_more : x + v * 2 ^ (m * j) % 2 ^ 32 ≡ packed m (j + 1) l
+    pack_more = ap₂ ◌+◌ ex placed ∙ sym (packed_next m j l)
+
+    pub pack_fits : shares_fit m s l ≡ true → Fits w32 (x + v * 2 ^ (m * j) % 2 ^ 32)
+    pack_fits e = record { fits = omega (arith, packed_small m s l (bounds m s k limits).bits few e (j + 1) (omega arith), pack_more) }
+
+  module _ (x j : ℕ) (l : List ℕ) (a : j ≤ s) (b : s ≤ j) (e : x ≡ packed m j l) where
+    pub pack_end : x ≡ packed m s l
+    pack_end = let z : j ≡ s = omega arith in rw z at e
+
+    pub pack_small : shares_fit m s l ≡ true → x < 2 ^ (m * s)
+    pack_small u = rw pack_end (packed_lt m s l (share_fits_lem m s l u few))
 
 -- ---- `run_stage`: the places of `out` below j hold what the components give, the others 0
 
@@ -96,64 +107,53 @@ pub out_start : (w : ℕ) (ls : List (List ℕ)) (x : ℕ) → FilledBelow w ls 
 unfolding tabulate
 out_start w ls x = record { is = refl }
 
-module _ (f : List ℕ) (y : Layout) (d : Describes f y) where
-  pub share_byte : (v : ℕ) → v < 2 ^ y.head.m → Fits w8 v
-  share_byte v h = record { fits = let q : 2 ^ y.head.m ≤ 2 ^ greatest_width = pow_mono (width_high f y d) in omega arith }
+module _ (m s k : ℕ) (limits : broken m s k ≡ false) where
+  pub share_byte : (v : ℕ) → v < 2 ^ m → Fits w8 v
+  share_byte v h = record { fits = let q : 2 ^ m ≤ 2 ^ greatest_width = pow_mono (bounds m s k limits).m_high in omega arith }
 
-  module _ (j : ℕ) (h : j < y.head.s) where
-    pub place_of_five : j < greatest_shares
-    place_of_five = omega (arith, shares_high f y d)
-
-    pub turn_fits : Fits w64 (j + 1)
-    turn_fits = record { fits = omega (arith, shares_high f y d) }
-
-    pub out_more : (ls : List (List ℕ)) (x v : ℕ) (out : List ℕ) → FilledBelow y.head.m ls x j out → v ≡ component y.head.m ls j x
-        → FilledBelow y.head.m ls x (j + 1) (set out j v)
+  module _ (j : ℕ) (h : j < s) where
+    pub out_more : (ls : List (List ℕ)) (x v : ℕ) (out : List ℕ) → FilledBelow m ls x j out → v ≡ component m ls j x → FilledBelow m ls x (j + 1) (set out j v)
     out_more ls x v out g e =
-        record { is = ap₂ (λ (o : List ℕ) (z : ℕ). set o j z) g.is e ∙ tabulate_more j (λ i. component y.head.m ls i x) five_zeros place_of_five }
+        record { is = ap₂ (λ (o : List ℕ) (z : ℕ). set o j z) g.is e ∙ tabulate_more j (λ i. component m ls i x) five_zeros (place_of_five m s k limits j h) }
 
-  pub out_end : (ls : List (List ℕ)) (x j : ℕ) (out l : List ℕ) → FilledBelow y.head.m ls x j out → j ≤ y.head.s → y.head.s ≤ j
-      → x ≡ packed y.head.m y.head.s l → out ≡ unpacked y.head.m y.head.s (output ls (packed y.head.m y.head.s l))
+  pub out_end : (ls : List (List ℕ)) (x j : ℕ) (out l : List ℕ) → FilledBelow m ls x j out → j ≤ s → s ≤ j → x ≡ packed m s l
+      → out ≡ unpacked m s (output ls (packed m s l))
   out_end ls x j out l g a b e =
-      let z : j ≡ y.head.s = omega arith in
-      g.is ∙ ap (λ (k : ℕ). tabulate k (λ i. component y.head.m ls i x) ++ drop k five_zeros) z
-      ∙ unpacked_filled y.head.m y.head.s (output ls x) (shares_high f y d) ∙ ap (λ (q : ℕ). unpacked y.head.m y.head.s (output ls q)) e
+      let z : j ≡ s = omega arith in
+      g.is ∙ ap (λ (i : ℕ). tabulate i (λ c. component m ls c x) ++ drop i five_zeros) z
+      ∙ unpacked_filled m s (output ls x) (bounds m s k limits).s_high ∙ ap (λ (q : ℕ). unpacked m s (output ls q)) e
 
--- ---- `run`: y is what was read of the file f, b whether the shares fit, v what is answered
+-- ---- `run_chain`: b is whether the shares l fit; `at` is what the chain makes of them, up to stage t
 
-pub unread : (f l : List ℕ) (y : Layout) → y ≡ layout_of f → (y.reason ≡ 0 → ⊥) → (v : Ran) → v ≡ refused_run y.reason → v ≡ running f l
-unread f l y a n v e = e ∙ sym (running_refused f l _ _ (refuses f y a n))
+module _ (f starts : List ℕ) (m s k : ℕ) (d : Describes f (laid_by m s k starts)) where
+  fine : broken m s k ≡ false
+  fine = limits f _ d
 
--- the shares `at` are what the chain makes of l, up to stage t
-pub record RunTo (f : List ℕ) (y : Layout) (l at : List ℕ) (t : ℕ) : Type 0 where
-  pub describes : Describes f y
-  pub fit : shares_fit y.head.m y.head.s l ≡ true
-  pub sent : Sent y.head.m y.head.s (meaning f).stages l at t
+  module _ (l : List ℕ) (b : Bool) (eb : b ≡ shares_fit m s l) where
+    pub unfit : not b ≡ true → refused_run 15 ≡ running f l
+    unfit h = sym (unfit_end f l _ d (sym eb ∙ not-true b h))
 
-module _ (f : List ℕ) (y : Layout) (a : y ≡ layout_of f) (z : y.reason ≡ 0) where
-  pub read_width : y.head.m ≤ greatest_width
-  read_width = width_high f y (answers_described f y a z)
+    pub run_start : not b ≡ false → length l ≡ greatest_shares → Sent m s (meaning f).stages l l 0
+    run_start h n = sent_start _ _ _ l (bounds m s k fine).s_high n (sym eb ∙ not-false b h)
 
-  module _ (l : List ℕ) (b : Bool) (eb : b ≡ shares_fit y.head.m y.head.s l) where
-    pub unfit : not b ≡ true → (v : Ran) → v ≡ refused_run 15 → v ≡ running f l
-    unfit h v e = e ∙ sym (unfit_end f l y (answers_described f y a z) (sym eb ∙ not-true b h))
+    module _ (at : List ℕ) (t : ℕ) (p : Sent m s (meaning f).stages l at t) where
+      pub run_end : not b ≡ false → t ≤ k → k ≤ t → finished at ≡ running f l
+      run_end h u v = sent_end f l at _ d t (omega arith) (sym eb ∙ not-false b h) p
 
-    pub run_start : not b ≡ false → length l ≡ greatest_shares → RunTo f y l l 0
-    run_start h n =
-        let d = answers_described f y a z in
-        let u = sym eb ∙ not-false b h in
-        record { describes = d; fit = u; sent = sent_start _ _ _ l (shares_high f y d) n u }
+  module _ (l at : List ℕ) (t : ℕ) (p : Sent m s (meaning f).stages l at t) where
+    pub run_fits : shares_fit m s at ≡ true
+    run_fits = sent_fits _ _ _ _ (bounds m s k fine).s_high _ _ p
 
-module _ (f : List ℕ) (y : Layout) (l at : List ℕ) (t : ℕ) (p : RunTo f y l at t) where
-  pub run_fits : shares_fit y.head.m y.head.s at ≡ true
-  run_fits = sent_fits _ _ _ _ (shares_high f y p.describes) _ _ p.sent
+    pub run_more : t < k → (next : List ℕ) → next ≡ unpacked m s (output (stage_of (meaning f) t).lists (packed m s at))
+        → Sent m s (meaning f).stages l next (t + 1)
+    run_more h next e =
+        let u = subst (λ (x : ℕ). t < x) (sym (stages_length f _ d)) h in
+        sent_next _ _ _ _ (bounds m s k fine).s_high _ t p next u (lists_length f _ d t h) e
 
-  pub run_end : t ≤ y.head.k → y.head.k ≤ t → record { reason = 0; shares = at } ≡ running f l
-  run_end a b = sent_end f l at y p.describes t (omega arith) p.fit p.sent
+-- ---- `run`: the file f does not read, or reads as g, which is the same file
 
-  pub run_more : t < y.head.k → (next : List ℕ)
-      → next ≡ unpacked y.head.m y.head.s (output (stage_of (meaning f) t).lists (packed y.head.m y.head.s at)) → RunTo f y l next (t + 1)
-  run_more h next e =
-      let d = p.describes in
-      let u = subst (λ (k : ℕ). t < k) (sym (stages_length f y d)) h in
-      record { describes = d; fit = p.fit; sent = sent_next _ _ _ _ (shares_high f y d) _ t p.sent next u (lists_length f y d t h) e }
+pub unread : (f l : List ℕ) (r : Reason) (p : ℕ) → refused_layout (number r) p ≡ layout_of f → refused_run (number r) ≡ running f l
+unread f l r p e = sym (running_refused f l _ _ (refuses f _ e (number_some r)))
+
+pub same_file : (f g l : List ℕ) (v : Ran) → g ≡ f → v ≡ running g l → v ≡ running f l
+same_file f g l v e q = q ∙ ap (λ (x : List ℕ). running x l) e

@@ -1,22 +1,22 @@
 -- The outputs of a stage at 64 sharings together. A term of the list stands in a sharing where the sharing's upper bits have its upper variables and the
 -- lower bits its lower ones, so what the terms add to the words are coefficients whose sums over subsets are the outputs.
 -- Each function of `blocks` has a law for each way out, and for each loop one for its start, a turn and its end. Assumes nothing.
-use mathlib.Core.Path.{◌≡◌, refl, sym, ap, ap₂, ◌∙◌, subst}
+use mathlib.Core.Path.{◌≡◌, refl, sym, ap, ap₂, ◌∙◌}
 use mathlib.Core.Logic.{◌≢◌}
 use mathlib.Core.Bool.{Bool, true, false, ◌&&◌}
 use mathlib.Core.List.{List, [], ◌∷◌}
 use Prim.Native.Nat.{ℕ, zero, suc, ◌+◌, ◌-◌, ◌*◌, ◌/◌, ◌%◌, ◌^◌, ◌≤◌, ◌<◌}
-use native.Mathlib.Nat.{pow-suc}
-use native.Mathlib.Numerals.{add-one}
+use native.Mathlib.Nat.{pow-suc, sub-zero, div-eq_of_lt, lt-div-mul-add, zero-mul}
+use native.Mathlib.Decide.{dec_lt}
 use native.Mathlib.Omega.{arith}
 use lib.Bits.{bit_xor, bit_and, bit_or, xor_comm, xor_self, xor_zero_r, and_le_l, or_add_and, and_block, xor_block}
 use lib.Pow.{pow_pos}
 use lib.Dec.{eqb}
-use lib.ListN.{length, get_or, set, drop, length-set, drop_of_length-le}
+use lib.ListN.{length, get_or, set, drop, replicate, length-set, drop_of_length-le}
 use lib.Seq.{drop-cons}
-use borrow.Author.Count.{below_more}
 use Rattle.std.specs.Int.Bits.{xor_shifted}
 use Rattle.std.proofs.Math.Seq.{get_or-set_same, get_or-set_other}
+use Rattle.std.proofs.lemmas.List.{get_or-replicate}
 use borrow.Author.Tests.{eqb-true, eqb-false, eq-eqb, ne_eqb}
 use Rattle.finite.specs.Tests.{pick, tabulate}
 use Rattle.finite.specs.Sets.{subset}
@@ -29,14 +29,9 @@ use Rattle.anf.specs.Terms.{value_at}
 use Rattle.anf.specs.Transform.{transformed}
 use Rattle.anf.proofs.SubsetSums.{subset_sum_ext, subset_sum_xor, subset_sum_none}
 use Rattle.anf.proofs.Terms.{value_at_lt}
-use Rattle.records.specs.Inside.Terms.{terms}
-use Rattle.design.specs.Limits.{greatest_share_bits}
-use Rattle.design.specs.Inside.StageLists.{body_at, Inside, AllInside, lists_of}
-use Rattle.design.proofs.StageLists.{lists_of_length}
 use Rattle.threshold.specs.Stages.{output}
 use Rattle.threshold.specs.Inside.Blocks.{outputs_from, term_added, terms_added, coefficient, coefficients, Ahead}
-use Rattle.threshold.proofs.Output.{output_lt}
-use Rattle.threshold.proofs.Evaluating.{OutputFrom, from_start, from_inside, from_list, from_more}
+use Rattle.threshold.specs.Inside.Outputs.{outputs_left}
 
 -- ---- what one term adds
 
@@ -152,30 +147,6 @@ module _ (high u : ℕ) (lu : u < 64) where
           ap₂ bit_xor x y ∙ xor_block i c (a * 2) 0 0 (pow_pos i) (pow_pos i)
           ∙ ap (λ (q : ℕ). q * 2 ^ i + 0) (xor_comm c (a * 2) ∙ xor_shifted a 1 c h) ∙ omega arith
 
--- ---- `clear`: the first i words are zero
-
-pub record ClearedTo (words₀ words : List ℕ) (i : ℕ) : Type 0 where
-  pub within : i ≤ length words
-  pub size : length words ≡ length words₀
-  pub zeros : (v : ℕ) → v < i → get_or words v 0 ≡ 0
-
-pub cleared_none : (words₀ : List ℕ) → ClearedTo words₀ words₀ 0
-cleared_none words₀ = record { within = omega arith; size = refl; zeros = λ v l. absurd (omega arith) }
-
-module _ (words₀ words : List ℕ) (i : ℕ) (c : ClearedTo words₀ words i) where
-  pub cleared_more : i < length words → ClearedTo words₀ (set words i 0) (i + 1)
-  cleared_more h = record {
-    within = omega (arith, length-set words i 0);
-    size = length-set words i 0 ∙ c.size;
-    zeros =
-        below_more (λ (v : ℕ). get_or (set words i 0) v 0 ≡ 0) i
-        (λ v l. get_or-set_other words i v 0 0 (λ k. absurd (omega arith)) ∙ c.zeros v l)
-        (get_or-set_same words i 0 0 h);
-  }
-
-  pub cleared_all : length words ≤ i → words ≡ tabulate (length words₀) (λ v. 0)
-  cleared_all h = sym (tabulate_of words (length words₀) (λ v. 0) 0 c.size (λ v l. sym (c.zeros v (let s = c.size in omega arith))))
-
 -- ---- `add_term`
 
 module _ (t high p : ℕ) (words : List ℕ) where
@@ -187,100 +158,49 @@ module _ (t high p : ℕ) (words : List ℕ) where
   unfolding term_added
   term_absent n = sym (pick_false (subset (t / 64) high) _ _ (ne_subset (t / 64) high (λ e. n (omega (arith, or_add_and (t / 64) high)))))
 
--- ---- `add_terms`: what the terms from the i-th on add to the words gives what all add to those of the start
+-- ---- `add_terms`: what the terms that are left add to the words is w, what all add to those of the start
 
-pub record TermsLeft (high p : ℕ) (ts words₀ words : List ℕ) (i : ℕ) : Type 0 where
-  pub within : i ≤ length ts
-  pub size : length words ≡ 64
-  pub left : terms_added high p (drop i ts) words ≡ terms_added high p ts words₀
+module _ (high p : ℕ) (ts words w : List ℕ) (l : terms_added high p ts words ≡ w) where
+  pub terms_more : (t : ℕ) (rest words' : List ℕ) → ts ≡ t ∷ rest → words' ≡ term_added high p t words → terms_added high p rest words' ≡ w
+  unfolding terms_added
+  terms_more t rest words' e a = rw a (rw e at l)
 
-module _ (high p : ℕ) (ts words₀ : List ℕ) where
-  pub terms_start : length words₀ ≡ 64 → TermsLeft high p ts words₀ words₀ 0
-  terms_start z = record { within = omega arith; size = z; left = refl }
+  pub terms_end : ts ≡ [] → words ≡ w
+  unfolding terms_added
+  terms_end e = rw e at l
 
-  module _ (words : List ℕ) (i : ℕ) (l : TermsLeft high p ts words₀ words i) where
-    module _ (n : ℕ) (e : n ≡ length ts) where
-      pub terms_more : i < n → (t : ℕ) (words' : List ℕ) → t ≡ get_or ts i 0 → words' ≡ term_added high p t words → TermsLeft high p ts words₀ words' (i + 1)
-      unfolding terms_added
-      terms_more h t words' q a = record {
-        within = omega arith;
-        size = ap length a ∙ term_size high p t words l.size;
-        left =
-            rw (a, q, add-one)
-            (ap (λ (x : List ℕ). terms_added high p x words) (sym (drop-cons ts i 0 (omega arith))) ∙ l.left);
-      }
+-- ---- `add_lists`: the lists from the i-th on are added, each with the power of two of its number
 
-      pub terms_end : n ≤ i → words ≡ terms_added high p ts words₀
-      unfolding terms_added
-      terms_end h = ap (λ (x : List ℕ). terms_added high p x words) (sym (drop_of_length-le ts {i = i} (omega arith))) ∙ l.left
-
--- ---- `add_lists`: the lists from the last down to the i-th are added, each with the power of two of its number
-
-module _ (f starts : List ℕ) (first n high : ℕ) where
-  pub record AddedFrom (at next : ℕ) (words : List ℕ) : Type 0 where
-    pub y : ℕ
-    pub place : OutputFrom f starts first n 0 at next y
-    pub size : length words ≡ 64
-    pub added : (v : ℕ) → v < 64 → get_or words v 0 ≡ coefficients high place.i (drop place.i (lists_of f starts first n)) v
-
-  pub added_start : n ≤ greatest_share_bits → (words : List ℕ) → words ≡ tabulate 64 (λ v. 0) → AddedFrom (first + n) (get_or starts (first + n) 0) words
+module _ (high : ℕ) (ls : List (List ℕ)) where
+  pub added_start : (n : ℕ) → n ≡ length ls → (words : List ℕ) → words ≡ replicate 64 0 → words ≡ tabulate 64 (coefficients high n (drop n ls))
   unfolding coefficients
-  added_start few words z =
-      let p = from_start f starts first n 0 few in
-      let i : p.i ≡ n = (let e = p.index in omega arith) in
-      let none : drop p.i (lists_of f starts first n) ≡ [] = drop_of_length-le (lists_of f starts first n) {i = p.i} (omega (arith, lists_of_length f starts first n)) in
-      record {
-        y = 0;
-        place = p;
-        size = ap length z ∙ tabulate_length 64 (λ v. 0);
-        added = λ v l. ap (λ (q : List ℕ). get_or q v 0) z ∙ tabulate_at 64 (λ w. 0) v 0 l ∙ ap (λ (q : List (List ℕ)). coefficients high p.i q v) (sym none);
-      }
+  added_start n e words z =
+      let none : drop n ls ≡ [] = drop_of_length-le ls {i = n} (omega arith) in
+      sym (tabulate_of words 64 (coefficients high n (drop n ls)) 0 (ap length z)
+      (λ v l. ap (λ (q : List (List ℕ)). coefficients high n q v) none ∙ sym (ap (λ (q : List ℕ). get_or q v 0) z ∙ get_or-replicate 64 v 0 0 l)))
 
-  module _ (at next : ℕ) (words : List ℕ) (a : AddedFrom at next words) where
-    pub added_size : length words ≡ 64
-    added_size = a.size
+  module _ (i : ℕ) (words : List ℕ) (a : words ≡ tabulate 64 (coefficients high i (drop i ls))) where
+    pub added_end : i ≤ 0 → words ≡ tabulate 64 (coefficients high 0 ls)
+    added_end h = let z : i ≡ 0 = omega arith in a ∙ ap (λ (k : ℕ). tabulate 64 (coefficients high k (drop k ls))) z
 
-    pub added_end : at ≤ first → words ≡ tabulate 64 (coefficients high 0 (lists_of f starts first n))
-    added_end h =
-        let i : a.place.i ≡ 0 = (let e = a.place.index in omega arith) in
-        sym (tabulate_of words 64 (coefficients high 0 (lists_of f starts first n)) 0 a.size
-        (λ v l. ap (λ (k : ℕ). coefficients high k (drop k (lists_of f starts first n)) v) (sym i) ∙ sym (a.added v l)))
+    pub added_more : (n : ℕ) → n ≡ length ls → 0 < i → i ≤ n → (words' ts : List ℕ) (p : ℕ) → ts ≡ get_or ls (i - 1) [] → p ≡ 2 ^ (i - 1)
+        → words' ≡ terms_added high p ts words → words' ≡ tabulate 64 (coefficients high (i - 1) (drop (i - 1) ls))
+    unfolding coefficients
+    added_more n en low most words' ts p eb ep e =
+        let j : i ≡ suc (i - 1) = omega arith in
+        let d : drop (i - 1) ls ≡ get_or ls (i - 1) [] ∷ drop (suc (i - 1)) ls = drop-cons ls (i - 1) [] (omega arith) in
+        let size : length words ≡ 64 = ap length a ∙ tabulate_length 64 (coefficients high i (drop i ls)) in
+        sym (tabulate_of words' 64 (coefficients high (i - 1) (drop (i - 1) ls)) 0 (ap length e ∙ terms_size high p ts words size)
+        (λ v l. sym (
+        ap (λ (x : List ℕ). get_or x v 0) e
+        ∙ terms_entry high p ts words size v l
+        ∙ ap₂ bit_xor
+        (ap (λ (x : List ℕ). get_or x v 0) a ∙ tabulate_at 64 (coefficients high i (drop i ls)) v 0 l ∙ ap (λ (x : ℕ). coefficients high x (drop x ls) v) j)
+        (ap₂ (λ (x : ℕ) (y : List ℕ). coefficient high x y v) ep eb)
+        ∙ xor_comm (coefficients high (suc (i - 1)) (drop (suc (i - 1)) ls) v) (coefficient high (2 ^ (i - 1)) (get_or ls (i - 1) []) v)
+        ∙ ap (λ (x : List (List ℕ)). coefficients high (i - 1) x v) (sym d))))
 
-    module _ (h : first < at) where
-      pub number_few : n ≤ greatest_share_bits → at - 1 - first ≤ greatest_share_bits
-      number_few few = let e = a.place.index in let m = a.place.most in omega arith
-
-      pub list_inside : AllInside f starts first n → Inside f (get_or starts (at - 1) 0) next
-      list_inside = from_inside f starts first n 0 at next a.y a.place h
-
-      pub added_more : n ≤ greatest_share_bits → (words' b : List ℕ) (p : ℕ) → b ≡ body_at f (get_or starts (at - 1) 0) next → p ≡ 2 ^ (at - 1 - first)
-          → words' ≡ terms_added high p (terms b) words → AddedFrom (at - 1) (get_or starts (at - 1) 0) words'
-      unfolding coefficients
-      added_more few words' b p eb ep e =
-          let w = a.place in
-          let ls = lists_of f starts first n in
-          let q = from_more f starts first n 0 at next a.y w h few (value_at (terms (body_at f (get_or starts (at - 1) 0) next)) 0) refl in
-          let i : q.i ≡ w.i - 1 = (let x = q.index in let y = w.index in omega arith) in
-          let j : w.i ≡ suc (w.i - 1) = (let y = w.index in omega arith) in
-          let k : at - 1 - first ≡ w.i - 1 = (let y = w.index in omega arith) in
-          let long : w.i - 1 < length ls = (let y = w.index in let m = w.most in omega (arith, lists_of_length f starts first n)) in
-          let here : terms b ≡ get_or ls (w.i - 1) [] = ap terms eb ∙ sym (from_list f starts first n 0 at next a.y w h) in
-          let d : drop (w.i - 1) ls ≡ get_or ls (w.i - 1) [] ∷ drop (suc (w.i - 1)) ls = drop-cons ls (w.i - 1) [] long in
-          record {
-            y = 2 * a.y + value_at (terms (body_at f (get_or starts (at - 1) 0) next)) 0;
-            place = q;
-            size = ap length e ∙ terms_size high p (terms b) words a.size;
-            added = λ v l.
-                ap (λ (x : List ℕ). get_or x v 0) e
-                ∙ terms_entry high p (terms b) words a.size v l
-                ∙ ap₂ bit_xor (a.added v l ∙ ap (λ (x : ℕ). coefficients high x (drop x ls) v) j)
-                (ap₂ (λ (x : ℕ) (y : List ℕ). coefficient high x y v) (ep ∙ ap (λ (x : ℕ). 2 ^ x) k) here)
-                ∙ xor_comm (coefficients high (suc (w.i - 1)) (drop (suc (w.i - 1)) ls) v) (coefficient high (2 ^ (w.i - 1)) (get_or ls (w.i - 1) []) v)
-                ∙ ap (λ (x : List (List ℕ)). coefficients high (w.i - 1) x v) (sym d)
-                ∙ ap (λ (x : ℕ). coefficients high x (drop x ls) v) (sym i);
-          }
-
--- ---- `fill`, `renew` and `output_in`
+-- ---- `fill`
 
 module _ (ls : List (List ℕ)) (x : ℕ) where
   pub filled : (words words' : List ℕ) → words ≡ tabulate 64 (coefficients (x / 64) 0 ls) → words' ≡ transformed 6 words → x % 64 ≡ 0 → words' ≡ outputs_from ls x
@@ -292,21 +212,15 @@ module _ (ls : List (List ℕ)) (x : ℕ) where
       ∙ coefficients_sum (x / 64) u lu 0 ls
       ∙ (let e : 64 * (x / 64) + u ≡ x + u = omega arith in rw e (omega arith)))
 
-  module _ (words : List ℕ) (a : Ahead ls x words) where
-    pub ahead_size : length words ≡ 64
-    ahead_size = a.size
+  -- ---- `Outputs`: the words of the block are there, or made
 
-    pub still_there : (x % 64 ≡ 0 → ⊥) → words ≡ outputs_from ls (x / 64 * 64)
-    still_there n = a.kept n
+  pub still_there : (words : List ℕ) → Ahead ls x words → (x % 64 ≡ 0 → ⊥) → words ≡ outputs_from ls (x / 64 * 64)
+  still_there words a n = a.kept n
 
   pub filled_there : (words : List ℕ) → words ≡ outputs_from ls x → x % 64 ≡ 0 → words ≡ outputs_from ls (x / 64 * 64)
   filled_there words e z = let q : x / 64 * 64 ≡ x = omega arith in rw q e
 
   module _ (words : List ℕ) (e : words ≡ outputs_from ls (x / 64 * 64)) where
-    pub block_long : x % 64 < length words
-    unfolding outputs_from
-    block_long = rw (ap length e ∙ tabulate_length 64 (λ v. output ls (x / 64 * 64 + v))) (omega arith)
-
     pub block_output : get_or words (x % 64) 0 ≡ output ls x
     unfolding outputs_from
     block_output =
@@ -315,15 +229,47 @@ module _ (ls : List (List ℕ)) (x : ℕ) where
 
     pub block_ahead : Ahead ls (x + 1) words
     unfolding outputs_from
-    block_ahead = record {
-      size = ap length e ∙ tabulate_length 64 (λ v. output ls (x / 64 * 64 + v));
-      kept = λ n. let q : (x + 1) / 64 ≡ x / 64 = omega arith in rw q e;
-    }
+    block_ahead = record { kept = λ n. let q : (x + 1) / 64 ≡ x / 64 = omega arith in rw q e }
 
-pub block_lt : (f starts : List ℕ) (first n x : ℕ) (words : List ℕ) → words ≡ outputs_from (lists_of f starts first n) (x / 64 * 64) → get_or words (x % 64) 0 < 2 ^ n
-block_lt f starts first n x words e =
-    let z = lists_of_length f starts first n in
-    rw (block_output (lists_of f starts first n) x words e) (subst (λ (k : ℕ). output (lists_of f starts first n) x < 2 ^ k) z (output_lt (lists_of f starts first n) x))
+pub ahead_start : (ls : List (List ℕ)) (words : List ℕ) → Ahead ls 0 words
+ahead_start ls words = record { kept = λ n. absurd (n refl) }
 
-pub ahead_start : (ls : List (List ℕ)) (words : List ℕ) → length words ≡ 64 → Ahead ls 0 words
-ahead_start ls words z = record { size = z; kept = λ n. absurd (n refl) }
+-- ---- what is left of the outputs
+
+div-pos : (x b : ℕ) → (x / b ≡ 0 → ⊥) → b ≤ x
+div-pos x b h = at (dec_lt x b)
+  where
+    at : Dec (x < b) → b ≤ x
+    at (yes l) = absurd (h (div-eq_of_lt l))
+    at (no l) = omega arith
+
+div-none : (x b : ℕ) → 0 < b → x / b ≡ 0 → x < b
+div-none x b p h = let w = lt-div-mul-add {a = x} p in let z : x / b * b ≡ 0 = rw h (zero-mul b) in omega arith
+
+pub outputs_all : (ls : List (List ℕ)) → outputs_left ls 0 ≡ tabulate (2 ^ length ls) (output ls)
+unfolding outputs_left
+outputs_all ls = rw sub-zero (tabulate_congr (2 ^ length ls) _ _ (λ i h. let z : 0 + i ≡ i = omega arith in ap (output ls) z))
+
+module _ (ls : List (List ℕ)) (x n : ℕ) (en : n ≡ length ls) where
+  pub outputs_none : (x / 2 ^ n ≡ 0 → ⊥) → outputs_left ls x ≡ []
+  unfolding outputs_left tabulate
+  outputs_none h =
+      let z : 2 ^ length ls - x ≡ 0 = (let q : 2 ^ length ls ≤ x = rw en at (div-pos x (2 ^ n) h) in omega arith) in
+      rw z refl
+
+  pub outputs_first : x / 2 ^ n ≡ 0 → outputs_left ls x ≡ output ls x ∷ outputs_left ls (x + 1)
+  unfolding outputs_left tabulate
+  outputs_first h =
+      let k : x < 2 ^ length ls = rw en at (div-none x (2 ^ n) (pow_pos n) h) in
+      let s : 2 ^ length ls - x ≡ suc (2 ^ length ls - (x + 1)) = omega arith in
+      ap (λ (q : ℕ). tabulate q (λ i. output ls (x + i))) s
+      ∙ ap₂ (λ (a : ℕ) (b : List ℕ). a ∷ b)
+      (let z : x + 0 ≡ x = omega arith in ap (output ls) z)
+      (tabulate_congr (2 ^ length ls - (x + 1)) _ _ (λ i l. let z : x + suc i ≡ x + 1 + i = omega arith in ap (output ls) z))
+
+  module _ (h : x / 2 ^ n ≡ 0) where
+    pub output_given : (words : List ℕ) → words ≡ outputs_from ls (x / 64 * 64) → outputs_left ls x ≡ get_or words (x % 64) 0 ∷ outputs_left ls (x + 1)
+    output_given words e = outputs_first h ∙ ap (λ (y : ℕ). y ∷ outputs_left ls (x + 1)) (sym (block_output ls x words e))
+
+    pub fewer_left : length (outputs_left ls (x + 1)) < length (outputs_left ls x)
+    fewer_left = let e = ap (λ (l : List ℕ). length l) (outputs_first h) in omega (arith, e)

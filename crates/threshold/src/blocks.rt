@@ -1,110 +1,107 @@
-// The outputs of a stage at 64 sharings together, those that differ in their lowest six bits alone. A term is looked at once for all of them: where the
+// The outputs of a stage at all sharings, 64 together: those that differ in their lowest six bits alone. A term is looked at once for all of them: where the
 // upper bits have its upper variables it is a coefficient of its lower ones, and the sums over subsets of the coefficients are the outputs.
-ghost use Rattle.std.specs.Prelude.{◌≡◌, ◌+◌, ◌*◌, ◌/◌, ◌%◌, ◌^◌, ◌≤◌, ◌<◌, length};
+ghost use Rattle.std.specs.Prelude.{◌≡◌, ◌*◌, ◌/◌, ◌%◌, ◌^◌, ◌≤◌, length, replicate};
 ghost use Rattle.finite.specs.Tests.{tabulate};
-ghost use Rattle.records.specs.Inside.Terms.{terms};
-ghost use Rattle.design.specs.Limits.{greatest_share_bits};
-ghost use Rattle.design.specs.Inside.StageLists.{AllInside, lists_of};
-ghost use Rattle.threshold.specs.Stages.{output};
+ghost use Rattle.records.specs.Inside.Terms.{terms_of};
+ghost use Rattle.design.specs.Inside.Lists.{lists_held};
 ghost use Rattle.threshold.specs.Inside.Blocks.{outputs_from, term_added, terms_added, coefficients, Ahead};
 
-// Zeroes the words.
-fn clear(words: &mut [u32])
-    ensures { words.new ≡ tabulate (length words.old) (λ v. 0) }
-{
-    let mut i: usize = 0;
-    while i < words.len() {
-        words[i] = 0;
-        i += 1;
-    }
-}
+use anf::words::sum_subsets;
+use design::{Lists, two_to};
+use records::Terms;
 
 // Adds `p` to the word of the term's lower variables, where `high` has its upper ones.
-fn add_term(t: u32, high: u32, p: u32, words: &mut [u32])
-    requires { length words.old ≡ 64 }
+fn add_term(t: u32, high: u32, p: u32, words: &mut [u32; 64])
     ensures { words.new ≡ term_added high p t words.old }
 {
     let upper = t / 64;
     if upper | high == high {
-        let v = (t % 64) as usize;
-        words[v] = words[v] ^ p;
+        words[(t % 64) as usize] ^= p;
     }
 }
 
-// The same for each term of a list.
-fn add_terms(list: &[u8], high: u32, p: u32, words: &mut [u32])
-    requires { length words.old ≡ 64 }
-    ensures { words.new ≡ terms_added high p (terms list.now) words.old }
+// The same for each term of a list. These functions take the words and not `Outputs`, so that each is an equation on the words alone.
+fn add_terms(list: &Terms<'_>, high: u32, p: u32, words: &mut [u32; 64])
+    ensures { words.new ≡ terms_added high p (terms_of list.now) words.old }
 {
-    let n = records::count(list);
-    let mut i: usize = 0;
-    while i < n {
-        add_term(records::term(list, i), high, p, words);
-        i += 1;
+    for term in list.iter() {
+        add_term(term, high, p, words);
     }
 }
 
-// 2 to the power of a list's number.
-fn weight(i: usize) -> u32
-    requires { i ≤ greatest_share_bits }
-    ensures { result ≡ 2 ^ i }
+// The coefficients of the lists, in the place of zeros; from the last list down by its number, as in `output_of`.
+fn add_lists(lists: &Lists<'_>, high: u32, words: &mut [u32; 64])
+    requires { words.old ≡ replicate 64 0 }
+    ensures { words.new ≡ tabulate 64 (coefficients high 0 (lists_held lists.now)) }
 {
-    finite::power(i) as u32
-}
-
-// The coefficients of `n` lists, whose bodies start where `starts` has it from `first` on, in the place of zeros.
-fn add_lists(file: &[u8], starts: &[usize], first: usize, n: usize, high: u32, words: &mut [u32])
-    requires { AllInside file.now starts.now first n × (first + n < length starts.now) × (n ≤ greatest_share_bits) × (words.old ≡ tabulate 64 (λ v. 0)) }
-    ensures { words.new ≡ tabulate 64 (coefficients high 0 (lists_of file.now starts.now first n)) }
-{
-    let mut at = first + n;
-    let mut next = starts[at];
-    while at > first {
-        at -= 1;
-        let start = starts[at];
-        add_terms(
-            design::body(file, start, next),
-            high,
-            weight(at - first),
-            words,
-        );
-        next = start;
+    for i in (0..lists.len()).rev() {
+        add_terms(&lists.list(i), high, two_to(i), words);
     }
 }
 
 // The outputs at the 64 sharings from `x` on.
-fn fill(file: &[u8], starts: &[usize], first: usize, n: usize, x: u32, words: &mut [u32])
-    requires { AllInside file.now starts.now first n × (first + n < length starts.now) × (n ≤ greatest_share_bits) × (length words.old ≡ 64) × (x % 64 ≡ 0) }
-    ensures { words.new ≡ outputs_from (lists_of file.now starts.now first n) x }
+fn fill(lists: &Lists<'_>, x: u32, words: &mut [u32; 64])
+    requires { x % 64 ≡ 0 }
+    ensures { words.new ≡ outputs_from (lists_held lists.now) x }
 {
-    clear(words);
-    add_lists(file, starts, first, n, x / 64, words);
-    anf::words::sum_subsets(6, words);
+    words.fill(0);
+    add_lists(lists, x / 64, words);
+    sum_subsets(6, words);
 }
 
 // The outputs of the block that `x` stands in, which are there but where it begins one.
-fn renew(file: &[u8], starts: &[usize], first: usize, n: usize, x: u32, words: &mut [u32])
-    requires { AllInside file.now starts.now first n × (first + n < length starts.now) × (n ≤ greatest_share_bits) × Ahead (lists_of file.now starts.now first n) x words.old }
-    ensures { words.new ≡ outputs_from (lists_of file.now starts.now first n) (x / 64 * 64) }
+fn renew(lists: &Lists<'_>, x: u32, words: &mut [u32; 64])
+    requires { Ahead (lists_held lists.now) x words.old }
+    ensures { words.new ≡ outputs_from (lists_held lists.now) (x / 64 * 64) }
 {
     if x % 64 == 0 {
-        fill(file, starts, first, n, x, words);
+        fill(lists, x, words);
     }
 }
 
-// The output at the sharing `x`, where sharings are asked for one after the other: `words` keeps those of the block.
-pub fn output_in(
-    file: &[u8],
-    starts: &[usize],
-    first: usize,
-    n: usize,
-    x: u32,
-    words: &mut [u32],
-) -> u32
-    requires { AllInside file.now starts.now first n × (first + n < length starts.now) × (n ≤ greatest_share_bits) × Ahead (lists_of file.now starts.now first n) x words.old }
-    ensures value { (result ≡ output (lists_of file.now starts.now first n) x) × (result < 2 ^ n) }
-    ensures ahead { Ahead (lists_of file.now starts.now first n) (x + 1) words.new }
-{
-    renew(file, starts, first, n, x, words);
-    words[(x % 64) as usize]
+/// The outputs of lists at the sharings from 0 on, one after the other: `words` keeps those of the block that the next one stands in.
+#[derive(Drop)]
+pub struct Outputs<'a> {
+    lists: Lists<'a>,
+    next: u32,
+    words: [u32; 64],
+    ghost ahead: { Ahead (lists_held lists) next words },
+}
+
+impl<'a> Outputs<'a> {
+    ghost use Rattle.std.specs.Prelude.{length};
+    ghost use Rattle.threshold.specs.Stages.{output};
+    ghost use Rattle.threshold.specs.Inside.Outputs.{left};
+
+    /// Those of all sharings.
+    pub fn new(lists: Lists<'a>) -> Self
+        ensures { left result ≡ tabulate (2 ^ length (lists_held lists.entry)) (output (lists_held lists.entry)) }
+    {
+        Outputs {
+            lists,
+            next: 0,
+            words: [0; 64],
+        }
+    }
+}
+
+impl<'a> Iterator for Outputs<'a> {
+    ghost use Rattle.std.specs.Iterator.{YieldsFirst, item_count};
+    ghost use Rattle.threshold.specs.Inside.Outputs.{left};
+
+    type Item = u32;
+
+    ghost next_gives = { YieldsFirst left };
+
+    ghost remaining = { item_count left };
+
+    fn next(&mut self) -> Option<u32> {
+        let x = self.next;
+        if x >> self.lists.len() != 0 {
+            return None;
+        }
+        renew(&self.lists, x, &mut self.words);
+        self.next = x + 1;
+        Some(self.words[(x % 64) as usize])
+    }
 }

@@ -1,107 +1,80 @@
 // Running stages and chains on five shares, the greatest number of them.
 ghost use Rattle.std.specs.Prelude.{◌≡◌, true, ◌*◌, ◌^◌, ◌≤◌, ◌<◌};
-ghost use Rattle.design.specs.Limits.{greatest_width, greatest_shares, greatest_share_bits};
 ghost use Rattle.design.specs.Design.{stage_of};
 ghost use Rattle.design.specs.Reading.{meaning};
-ghost use Rattle.design.specs.Inside.Described.{Describes};
 ghost use Rattle.threshold.specs.Stages.{output};
-ghost use Rattle.threshold.specs.Running.{packed, unpacked, share_fits, shares_fit, refused_run, running};
+ghost use Rattle.threshold.specs.Running.{packed, unpacked, share_fits, shares_fit, running};
+ghost use Rattle.threshold.specs.Inside.Outcomes.{ran_of};
 
+use super::FiveShares;
 use super::engine::component_at;
-use super::{FiveShares, Ran};
-use design::{Head, Layout};
+use design::{DesignFile, Head};
+use reasons::Reason;
 
-// Whether share `j` is one that a run takes: a used one is below 2^m, one after `s` is 0.
-fn share_fits(share: u8, j: usize, m: usize, s: usize) -> bool
-    requires { m ≤ greatest_width }
-    ensures { result ≡ share_fits m s j share }
+// Whether share `j` is one that a run takes: a used one is below 2^m, one after the shares in use is 0.
+fn share_fits(share: u8, j: usize, head: Head) -> bool
+    ensures { result ≡ share_fits head.m head.s j share }
 {
-    if j < s {
-        return finite::wide(share) < finite::power(m);
+    if j < head.s {
+        usize::from(share) < head.points()
+    } else {
+        share == 0
     }
-    share == 0
 }
 
-fn shares_fit(shares: FiveShares, m: usize, s: usize) -> bool
-    requires { m ≤ greatest_width }
-    ensures { result ≡ shares_fit m s shares }
+fn shares_fit(shares: FiveShares, head: Head) -> bool
+    ensures { result ≡ shares_fit head.m head.s shares }
 {
-    let mut j = 0;
-    while j < Head::GREATEST_SHARES {
-        if !share_fits(shares[j], j, m, s) {
-            return false;
-        }
-        j += 1;
-    }
-    true
+    shares
+        .iter()
+        .enumerate()
+        .all(|(j, &share)| share_fits(share, j, head))
 }
 
-// A share at its place in a sharing.
-fn placed(share: u8, e: usize) -> u32
-    requires { e ≤ greatest_share_bits }
-    ensures { result ≡ share * 2 ^ e }
-{
-    (share as u32) << (e as u32)
-}
-
-// Five shares as one number.
-fn pack(shares: FiveShares, m: usize, s: usize) -> u32
-    requires { (m * s ≤ greatest_share_bits) × (s ≤ greatest_shares) × (shares_fit m s shares ≡ true) }
-    ensures { (result ≡ packed m s shares) × (result < 2 ^ (m * s)) }
+// Five shares as one number: share `j` is moved up by j × m bits, so the loop goes by j.
+fn pack(shares: FiveShares, head: Head) -> u32
+    requires { shares_fit head.m head.s shares ≡ true }
+    ensures { (result ≡ packed head.m head.s shares) × (result < 2 ^ (head.m * head.s)) }
 {
     let mut x: u32 = 0;
-    let mut j = 0;
-    while j < s {
-        x = x + placed(shares[j], m * j);
-        j += 1;
+    for j in 0..head.s {
+        x += u32::from(shares[j]) << (head.m * j);
     }
     x
 }
 
-// Stage `t` run on five shares: each component fills one place.
-pub fn run_stage(file: &[u8], layout: Layout, t: usize, shares: FiveShares) -> FiveShares
-    requires { Describes file.now layout × (t < layout.head.k) × (shares_fit layout.head.m layout.head.s shares ≡ true) }
-    ensures { result ≡ unpacked layout.head.m layout.head.s (output (stage_of (meaning file.now) t).lists (packed layout.head.m layout.head.s shares)) }
+/// Stage `t` run on five shares: each component fills one place.
+pub fn run_stage(design: &DesignFile<'_>, t: usize, shares: FiveShares) -> FiveShares
+    requires { (t < design.now.head.k) × (shares_fit design.now.head.m design.now.head.s shares ≡ true) }
+    ensures { result ≡ unpacked design.now.head.m design.now.head.s (output (stage_of (meaning design.now.file.now) t).lists (packed design.now.head.m design.now.head.s shares)) }
 {
-    let x = pack(shares, layout.head.m, layout.head.s);
+    let x = pack(shares, design.head);
     let mut out = [0u8; Head::GREATEST_SHARES];
-    let mut j = 0;
-    while j < layout.head.s {
-        out[j] = component_at(file, layout, t, j, x) as u8;
-        j += 1;
+    for j in 0..design.head.s {
+        out[j] = component_at(design, t, j, x) as u8;
     }
     out
 }
 
-fn refuse(reason: usize) -> Ran
-    ensures { result ≡ refused_run reason }
+// Runs the chain of a design.
+fn run_chain(design: &DesignFile<'_>, shares: FiveShares) -> Result<FiveShares, Reason>
+    ensures { ran_of result ≡ running design.now.file.now shares }
 {
-    Ran {
-        reason,
-        shares: [0u8; Head::GREATEST_SHARES],
-    }
-}
-
-// Runs the chain of a file on five shares.
-pub fn run(file: &[u8], shares: FiveShares) -> Ran
-    ensures { result ≡ running file.now shares }
-{
-    let layout = design::read(file);
-    if layout.reason != 0 {
-        return refuse(layout.reason);
-    }
-    if !shares_fit(shares, layout.head.m, layout.head.s) {
-        return refuse(15);
+    if !shares_fit(shares, design.head) {
+        return Err(Reason::BadShare);
     }
     let mut at = shares;
-    let mut t = 0;
-    while t < layout.head.k {
-        let next = run_stage(file, layout, t, at);
+    for t in 0..design.head.k {
+        // An array that a call answers goes into a variable of its own, or the check has no proof of it.
+        let next = run_stage(design, t, at);
         at = next;
-        t += 1;
     }
-    Ran {
-        reason: 0,
-        shares: at,
-    }
+    Ok(at)
+}
+
+/// Runs the chain of a file on five shares.
+pub fn run(file: &[u8], shares: FiveShares) -> Result<FiveShares, Reason>
+    ensures { ran_of result ≡ running file.now shares }
+{
+    run_chain(&design::read(file)?, shares)
 }

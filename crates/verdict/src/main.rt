@@ -1,24 +1,27 @@
+// Reads a design file on standard input and prints the verdict: reason, place and component.
 #![tactic(auto)]
 
-// The verdict program: reads a design file on standard input and prints reason, place and component.
-fn print_line(a: usize, b: usize, c: usize) {
-    io::print_decimal(1, a as u64);
-    io::write_all(1, b" ");
-    io::print_decimal(1, b as u64);
-    io::write_all(1, b" ");
-    io::print_decimal(1, c as u64);
-    io::write_all(1, b"\n");
-}
+use checker::Verdict;
+use reasons::Reason;
+use std::io;
+use std::io::Read;
 
-fn main() {
-    let mut input = [0u8; 32769];
-    let n = io::read_full(0, &mut input);
-    if 32768 < n {
-        print_line(18, 0, 0);
-        return;
+// The most bytes that are judged.
+const MOST_BYTES: usize = 32768;
+
+// The bytes of the workspace, as published.
+const WORKSPACE: usize = 32768;
+
+fn main(rt: HostRuntime) -> io::Result<()> {
+    let mut input = Vec::new(rt.alloc());
+    rt.stdin()
+        .take(MOST_BYTES as u64 + 1)
+        .read_to_end(&mut input)?;
+    if input.len() > MOST_BYTES {
+        let reason = Reason::InputTooLong.number();
+        return println!(rt; "{reason} 0 0");
     }
-    let mut workspace = [0u8; 32768];
-    let judged = checker::judge(&input[..n], &mut workspace);
-    let v = judged.verdict;
-    print_line(v.reason, v.place, v.component);
+    let mut workspace = [0u8; WORKSPACE];
+    let verdict = Verdict::from(checker::judge(&input, &mut workspace).outcome);
+    println!(rt; "{verdict}")
 }

@@ -1,15 +1,12 @@
-use Rattle.std.proofs.Common.{arith}
-use Rattle.anf.proofs.Turning.{once_start, once_fails, once_more, once_end}
+use Rattle.std.proofs.Common.{rules, tests}
+use Rattle.std.proofs.lemmas.Iterator.{YieldsList-from_slice}
+use Rattle.std.proofs.lemmas.Iterator.Consumers.{YieldsList-from_enumerate}
+use Rattle.std.proofs.lemmas.Iterator.Search.{any_from_yields_List}
+use Rattle.anf.proofs.Tables.{any_before, stands_before}
 use Rattle.anf.proofs.repeats.Goals as goal
 
-pub loop-i-init : goal.loop-i-init
-loop-i-init c = search (arith, once_start)
-
-pub returns-then-met_before : goal.returns-then-met_before
-returns-then-met_before c = search once_fails
-
-pub loop-i-preserved : goal.loop-i-preserved
-loop-i-preserved c = search (arith, once_more)
-
 pub returns : goal.returns
-returns c = search once_end
+returns c =
+    any_before _ _
+    (any_from_yields_List (stands_before c.args.table.now) _ _ _ c.any.ensures.ran
+    (YieldsList-from_enumerate (YieldsList-from_slice c.args.table.now cc) (search rules)) (λ x b f k. search (rules, tests)))

@@ -1,12 +1,9 @@
 -- `anf::transform` meets its contract: each way out is a law of `Answers`, whose premises `search` finds among what is known there.
-use Rattle.anf.proofs.Answers.{answered, narrow, wide, uneven, large, short, done}
+use Rattle.anf.proofs.Answers.{answered, no_width, uneven, large, short, done}
 use Rattle.anf.proofs.transform.Goals as goal
 
 pub returns-then-m-lt1 : goal.returns-then-m-lt1
-returns-then-m-lt1 c = answered (search narrow)
-
-pub returns-then-m-gt-GREATEST_WIDTH : goal.returns-then-m-gt-GREATEST_WIDTH
-returns-then-m-gt-GREATEST_WIDTH c = answered (search wide)
+returns-then-m-lt1 c = answered (search no_width)
 
 pub returns-then-input-n : goal.returns-then-input-n
 returns-then-input-n c = answered (search uneven)

@@ -1,10 +1,6 @@
 -- `anf::words_degree` meets its contract. The loop's invariant: the degree so far is the largest over the words passed.
-use Rattle.std.proofs.Common.{◌-◌, ◌≤◌, length}
 use Rattle.anf.proofs.Turning.{DegreeOf}
 use Rattle.anf.proofs.words_degree.Given as goal
 
 abbrev pub invariant-loop-u : goal.invariant-loop-u
-invariant-loop-u l = (l.u ≤ length l.words) × DegreeOf l.words l.u l.degree
-
-abbrev pub decreases-loop-u : goal.decreases-loop-u
-decreases-loop-u l = length l.words - l.u
+invariant-loop-u l = DegreeOf l.words l.u l.degree

@@ -1,20 +1,16 @@
 -- `judge_design` meets its contract: each way out is a law of `JudgingDesign`, whose premises `search` finds among what is known there.
-use Rattle.checker.proofs.JudgingDesign.{box_repeated, box_repeated_after, no_room, no_room_after, chain_answers, chain_after}
-use Rattle.design.proofs.Found.{bits_high}
+use Rattle.checker.proofs.JudgingDesign.{box_repeated, box_repeated_trials, box_repeated_after, no_room, no_room_trials, no_room_after, chain_answers, chain_trials, chain_after}
 use Rattle.checker.proofs.Workspace.{room_stays, stays_zeroed}
 use Rattle.checker.proofs.judge_design.Goals as goal
 
 pub returns-then-repeats : goal.returns-then-repeats
-returns-then-repeats c = search (box_repeated, box_repeated_after)
-
-pub workspace_for-n-requires : goal.workspace_for-n-requires
-workspace_for-n-requires c = search bits_high
+returns-then-repeats c = search (box_repeated, box_repeated_trials, box_repeated_after)
 
 pub returns-then-workspace-n : goal.returns-then-workspace-n
-returns-then-workspace-n c = search (no_room, no_room_after)
+returns-then-workspace-n c = search (no_room, no_room_trials, no_room_after)
 
 pub judge_chain-requires : goal.judge_chain-requires
 judge_chain-requires c = search (room_stays, stays_zeroed)
 
 pub returns : goal.returns
-returns c = search (chain_answers, chain_after)
+returns c = search (chain_answers, chain_trials, chain_after)

@@ -1,32 +1,28 @@
-use Rattle.std.proofs.Common.{arith, lit≤}
-use Rattle.checker.proofs.StageFacts.{stage_fits}
-use Rattle.checker.proofs.JudgingStages.{stages_start, stages_done, stages_stop, stages_go, trials_fit}
-use Rattle.checker.proofs.Workspace.{same_room, same_zeroed, same_length, same_through, same_length_through}
+use Rattle.std.proofs.Common.{arith}
+use Rattle.checker.proofs.JudgingStages.{stages_start, stages_stop, stages_stop_counted, stages_go, stages_done, stages_counted}
+use Rattle.checker.proofs.Workspace.{same_room, same_zeroed, same_through}
+use Rattle.std.proofs.lemmas.Result.{err_from_is_err_and}
 use Rattle.checker.proofs.judge_stages.Goals as goal
 
 pub loop-t-init : goal.loop-t-init
-loop-t-init c = search (stages_start, arith)
+loop-t-init c = search stages_start
 
-pub judge_stage-stage-requires : goal.judge_stage-stage-requires
-judge_stage-stage-requires c = search (arith, same_room, same_zeroed)
+pub judge_stage-requires : goal.judge_stage-requires
+judge_stage-requires c = search (arith, same_room, same_zeroed)
 
-pub overflow_add-trials : goal.overflow_add-trials
-overflow_add-trials c = search trials_fit
+pub returns-in_err-judge_stage-clause-value : goal.returns-in_err-judge_stage-clause-value
+returns-in_err-judge_stage-clause-value c =
+    let p = err_from_is_err_and c.from_residual.result c.from_residual.ensures.1 in
+    rw (p.1, p.2) (search (stages_stop, c.in_err-judge_stage.ensures.value))
 
-pub shape_of-workspace-then-verdict-ne0 : goal.shape_of-workspace-then-verdict-ne0
-shape_of-workspace-then-verdict-ne0 c = search same_length_through
-
-pub returns-then-verdict-ne0 : goal.returns-then-verdict-ne0
-returns-then-verdict-ne0 c = search (stages_stop, same_through)
-
-pub overflow_add-t : goal.overflow_add-t
-overflow_add-t c = search (lit≤, stage_fits)
+pub returns-in_err-judge_stage-clause-trials : goal.returns-in_err-judge_stage-clause-trials
+returns-in_err-judge_stage-clause-trials c = search (stages_stop_counted, c.in_err-judge_stage.ensures.value)
 
 pub loop-t-preserved : goal.loop-t-preserved
-loop-t-preserved c = search (arith, stages_go, same_through)
+loop-t-preserved c = search (stages_go, same_through, c.in_ok-judge_stage.ensures.value)
 
-pub shape_of-workspace : goal.shape_of-workspace
-shape_of-workspace c = search same_length
+pub returns-clause-value : goal.returns-clause-value
+returns-clause-value c = search stages_done
 
-pub returns : goal.returns
-returns c = search stages_done
+pub returns-clause-trials : goal.returns-clause-trials
+returns-clause-trials c = search stages_counted

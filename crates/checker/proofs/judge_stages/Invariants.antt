@@ -1,10 +1,7 @@
 -- `judge_stages` meets its contract: the stages passed have no fault, so the verdict is that of the rest.
-use Rattle.std.proofs.Common.{◌-◌, ◌≡◌, ◌≤◌}
+use Rattle.std.proofs.Common.{◌≡◌}
 use Rattle.checker.proofs.JudgingStages.{FaultlessTo}
 use Rattle.checker.proofs.judge_stages.Given as goal
 
 abbrev pub invariant-loop-t : goal.invariant-loop-t
-invariant-loop-t l = (l.t ≤ l.k) × FaultlessTo l.file l.t l.trials × (l.workspace ≡ l.initial.workspace)
-
-abbrev pub decreases-loop-t : goal.decreases-loop-t
-decreases-loop-t l = l.k - l.t
+invariant-loop-t l = FaultlessTo l.design.file.now l.t l.trials × (l.workspace ≡ l.initial.workspace)

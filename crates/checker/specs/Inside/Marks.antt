@@ -2,7 +2,6 @@
 use Rattle.std.specs.Prelude.{ℕ, ◌/◌, ◌%◌, ◌^◌, ◌<◌, ◌≤◌, ◌≡◌, List, Bool, false, length, get_or, set}
 use Rattle.std.specs.Int.Bits.{bit_or}
 use Rattle.finite.specs.Sets.{has}
-use Rattle.design.specs.declared.Layout.{Layout}
 use Rattle.checker.specs.Verdict.{workspace_for, zeroed}
 
 -- y is marked
@@ -17,10 +16,6 @@ mark l y = set l (y / 8) (bit_or (get_or l (y / 8) 0) (2 ^ (y % 8)))
 abbrev pub Clear : ℕ → List ℕ → Type 0
 Clear n l = (y : ℕ) → y < n → marked l y ≡ false
 
--- the bytes that hold a mark for each sharing
-abbrev pub mark_bytes : Layout → ℕ
-mark_bytes l = workspace_for l.head.m l.head.s
-
--- a workspace with room for the marks, all of them zero
-abbrev pub Cleared : Layout → List ℕ → Type 0
-Cleared l ws = (mark_bytes l ≤ length ws) × (zeroed (mark_bytes l) ws ≡ ws)
+-- a workspace with room for a mark of each sharing, all of them zero
+abbrev pub Cleared : ℕ → ℕ → List ℕ → Type 0
+Cleared m s ws = (workspace_for m s ≤ length ws) × (zeroed (workspace_for m s) ws ≡ ws)

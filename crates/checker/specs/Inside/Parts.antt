@@ -1,16 +1,15 @@
--- What the functions below `judge` answer: parts of the verdict on a design, what the passes over sharings find, and answers with their trials.
-use Rattle.std.specs.Prelude.{ℕ, ◌+◌, ◌*◌, ◌^◌, ◌<◌, ◌≤◌, ◌≡◌, Bool, true, false, ◌||◌, List, length, get_or, drop, eqb}
-use Rattle.finite.specs.Tests.{pick, any, tried}
+-- What the functions below `judge` answer: parts of the verdict on a design, and what the passes over sharings find.
+use Rattle.std.specs.Prelude.{ℕ, ◌+◌, ◌*◌, ◌^◌, ◌<◌, ◌≡◌, Bool, false, ◌||◌, Option, Some, None, Result, Ok, Err, List, [], get_or, drop, eqb}
+use Rattle.finite.specs.Tests.{pick, any, first}
 use Rattle.finite.specs.Faults.{first_fault}
-use Rattle.design.specs.Limits.{greatest_share_bits}
+use Rattle.anf.specs.Terms.{names}
 use Rattle.design.specs.Design.{Stage, Design, stage_of}
-use Rattle.design.specs.Inside.StageLists.{AllInside}
 use Rattle.threshold.specs.Chain.{chained}
-use Rattle.checker.specs.Verdict.{answer, stage_faults, stages_faults, faults}
-use Rattle.checker.specs.Trials.{sums_wrong, output_met, correctness_at, uniformity_at, trials_of, counted}
+use Rattle.checker.specs.Verdict.{answer, table_repeats, stage_faults, stages_faults, faults}
+use Rattle.checker.specs.Trials.{sums_wrong, output_met, correctness_at, uniformity_at}
+use Rattle.checker.specs.Outcome.{refused_with}
 use Rattle.checker.specs.declared.Verdict.{Verdict}
-use Rattle.checker.specs.declared.Judged.{Judged}
-use Rattle.checker.specs.declared.stages.Pass.{Pass}
+use Rattle.checker.specs.declared.Refusal.{Refusal}
 
 -- what stage t, counted from 0, answers alone: 0 where it has no fault
 unfoldable pub stage_judged : Design → ℕ → Verdict
@@ -28,39 +27,45 @@ chain_judged d = first_fault (drop 2 (faults d 0)) (answer 0 d.k 0)
 unfoldable pub Composes : Design → ℕ → List ℕ → Type 0
 Composes d m c = (x : ℕ) → x < 2 ^ m → get_or c x 0 ≡ chained d.stages x
 
--- n lists stand in the file, as many as there are share bits; the list of starts has the first of them at `first`
-abbrev pub Standing : List ℕ → List ℕ → ℕ → ℕ → Type 0
-Standing f starts first n = AllInside f starts first n × (first + n < length starts) × (n ≤ greatest_share_bits)
+-- ---- The first of n numbers, from 0 on, at which a test passes, and how many are tried to find it
 
--- ---- Passes over n numbers, from 0 on, up to the first at which p passes
+-- the first, if there is one
+unfoldable pub found : ℕ → (ℕ → Bool) → Option ℕ
+found n p = pick (any n p) (Some (first n p)) None
 
--- a pass that stops at x, which is tried too, and one that tries all
-abbrev pub stopped_at : ℕ → Pass
-stopped_at x = record { stopped = true; tries = x + 1 }
+-- one that is found is below n
+unfoldable pub FoundBelow : ℕ → Option ℕ → Type 0
+FoundBelow n (Some x) = x < n
+FoundBelow n None = Unit {0}
 
-abbrev pub ended_after : ℕ → Pass
-ended_after n = record { stopped = false; tries = n }
+-- those up to the one that is found, which is tried too, or all
+unfoldable pub tries_until : ℕ → Option ℕ → ℕ
+tries_until n (Some x) = x + 1
+tries_until n None = n
 
-abbrev pub pass : ℕ → (ℕ → Bool) → Pass
-pass n p = record { stopped = any n p; tries = tried n p }
+-- the first sharing at which a stage is not correct
+abbrev pub first_wrong : ℕ → ℕ → Stage → Option ℕ
+first_wrong w s g = found (2 ^ (w * s)) (sums_wrong w s g)
 
-abbrev pub correctness_pass : ℕ → ℕ → Stage → Pass
-correctness_pass w s g = pass (2 ^ (w * s)) (sums_wrong w s g)
+-- the first sharing whose output was met before
+abbrev pub first_met : ℕ → ℕ → Stage → Option ℕ
+first_met w s g = found (2 ^ (w * s)) (output_met g)
 
-abbrev pub uniformity_pass : ℕ → ℕ → Stage → Pass
-uniformity_pass w s g = pass (2 ^ (w * s)) (output_met g)
+-- one of the first n lists of component j, of width w, names a variable of the group
+abbrev pub lists_name : ℕ → ℕ → List (List ℕ) → ℕ → ℕ → Bool
+lists_name n w ls j group = any n (λ b. names group (get_or ls (w * j + b) []))
 
-abbrev pub stage_from : List ℕ → List (List ℕ) → Stage
-stage_from table lists = record { table = table; lists = lists }
+-- ---- One stage
 
--- ---- Answers with their trials
+-- its fault, if it has one: 0 where it has none
+abbrev pub fault_of : Result (Unit {0}) Refusal → Verdict
+fault_of (Ok x) = answer 0 0 0
+fault_of (Err r) = refused_with r
 
 -- the trials of stage t alone, by what it answers: with 12 and 13 uniformity is not tried
 abbrev pub stage_tries : Design → ℕ → ℕ → ℕ
 stage_tries d t reason = correctness_at d t + pick (eqb reason 12 || eqb reason 13) 0 (uniformity_at d t)
 
-unfoldable pub stage_answer : Design → ℕ → Judged
-stage_answer d t = counted (stage_judged d t) (stage_tries d t (stage_judged d t).reason)
-
-abbrev pub with_trials : Design → Verdict → Judged
-with_trials d v = counted v (trials_of d v)
+-- no table repeats an entry
+abbrev pub NoneRepeats : Design → Type 0
+NoneRepeats d = any d.k (table_repeats d) ≡ false

@@ -2,8 +2,8 @@
 use Rattle.std.specs.Prelude.{ℕ, ◌+◌, ◌<◌, ◌≡◌, false, List, get_or}
 use Rattle.design.specs.Limits.{broken}
 use Rattle.design.specs.Reading.{means, head_of, last_of, place, meaning, reading}
-use Rattle.design.specs.declared.Head.{Head}
-use Rattle.design.specs.declared.Layout.{Layout}
+use Rattle.design.specs.Limits.{Head}
+use Rattle.design.specs.Layout.{Layout}
 
 -- a head within the limits
 abbrev pub Limits : Head → Type 0

@@ -1,7 +1,7 @@
 -- The lists of a stage as they stand in a file, by where the bodies of its records start.
 use Rattle.std.specs.Prelude.{ℕ, ◌+◌, ◌*◌, ◌-◌, ◌≤◌, ◌<◌, List, length, get_or, take, drop}
 use Rattle.finite.specs.Tests.{tabulate}
-use Rattle.design.specs.Limits.{greatest_terms}
+use Rattle.design.specs.Limits.{greatest_terms, greatest_share_bits}
 use Rattle.records.specs.Inside.Terms.{terms}
 
 -- the body that starts at a place, where the next one is known to start: four bytes stand between them, the next head
@@ -19,3 +19,17 @@ AllInside f starts first n = (i : ℕ) → i < n → Inside f (get_or starts (fi
 -- the lists of terms of those bodies
 unfoldable pub lists_of : List ℕ → List ℕ → ℕ → ℕ → List (List ℕ)
 lists_of f starts first n = tabulate n (λ i. terms (body_at f (get_or starts (first + i) 0) (get_or starts (first + i + 1) 0)))
+
+-- n bodies of a run of records: where each starts, and where that of the record behind them does
+abbrev pub run_length : List ℕ → ℕ
+run_length starts = length starts - 1
+
+-- a run of the lists of a stage stands in the file
+pub record Stands (f starts : List ℕ) : Type 0 where
+  pub some : 1 ≤ length starts
+  pub few : run_length starts ≤ greatest_share_bits
+  pub inside : AllInside f starts 0 (run_length starts)
+
+-- its lists of terms
+abbrev pub lists_in : List ℕ → List ℕ → List (List ℕ)
+lists_in f starts = lists_of f starts 0 (run_length starts)

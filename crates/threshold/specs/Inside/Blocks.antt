@@ -1,5 +1,5 @@
 -- The outputs of a stage at 64 sharings together, those that differ in their lowest six bits alone: what the functions of `blocks` answer.
-use Rattle.std.specs.Prelude.{ℕ, ◌+◌, ◌*◌, ◌/◌, ◌%◌, ◌^◌, ◌≡◌, suc, ◌&&◌, List, [], ◌∷◌, eqb, length, get_or, set}
+use Rattle.std.specs.Prelude.{ℕ, ◌+◌, ◌*◌, ◌/◌, ◌%◌, ◌^◌, ◌≡◌, suc, ◌&&◌, List, [], ◌∷◌, eqb, get_or, set}
 use Rattle.std.specs.Int.Bits.{bit_xor}
 use Rattle.finite.specs.Tests.{pick, tabulate}
 use Rattle.finite.specs.Sets.{subset}
@@ -30,5 +30,4 @@ coefficients high i (l ∷ ls) v = bit_xor (coefficient high (2 ^ i) l v) (coeff
 
 -- where the sharing σ does not begin a block, the words are the outputs of the block that it stands in
 pub record Ahead (ls : List (List ℕ)) (σ : ℕ) (words : List ℕ) : Type 0 where
-  pub size : length words ≡ 64
   pub kept : (σ % 64 ≡ 0 → ⊥) → words ≡ outputs_from ls (σ / 64 * 64)

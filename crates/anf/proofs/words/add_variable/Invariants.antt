@@ -1,10 +1,7 @@
 -- `anf::words::add_variable` meets its contract. The loop's invariant: the blocks passed are summed over variable k.
-use Rattle.std.proofs.Common.{◌-◌, ◌^◌}
+use Rattle.std.proofs.Common.{◌*◌}
 use Rattle.anf.proofs.InPlace.{SummedTo}
 use Rattle.anf.proofs.words.add_variable.Given as goal
 
-abbrev pub invariant-loop-at : goal.invariant-loop-at
-invariant-loop-at l = SummedTo l.m l.k l.initial.words l.words l.at
-
-abbrev pub decreases-loop-at : goal.decreases-loop-at
-decreases-loop-at l = 2 ^ l.m - l.at
+abbrev pub invariant-loop-block : goal.invariant-loop-block
+invariant-loop-block g l = SummedTo l.k (g.W.Word.numbers l.initial.words) (g.W.Word.numbers l.words) (l.block * l.size)

@@ -1,12 +1,15 @@
 use Rattle.std.proofs.Common.{arith}
-use Rattle.anf.proofs.InPlace.{over_start, over_more, over_end}
+use Rattle.anf.proofs.InPlace.{sums_start, whole_blocks, sums_more, sums_end}
 use Rattle.anf.proofs.words.sum_subsets.Goals as goal
 
 pub loop-k-init : goal.loop-k-init
-loop-k-init c = search (arith, over_start)
+loop-k-init g c = search (sums_start g.W.Word.each)
+
+pub add_variable-requires : goal.add_variable-requires
+add_variable-requires g c = (omega arith, search (whole_blocks g.W.Word.each))
 
 pub loop-k-preserved : goal.loop-k-preserved
-loop-k-preserved c = search (arith, over_more)
+loop-k-preserved g c = search (sums_more g.W.Word.each)
 
 pub returns : goal.returns
-returns c = search over_end
+returns g c = search (sums_end g.W.Word.each)

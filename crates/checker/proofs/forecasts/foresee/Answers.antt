@@ -1,16 +1,13 @@
 -- `foresee` meets its contract: each way out is a law of `Forecasting`.
-use Rattle.design.proofs.Answering.{head_limits}
-use Rattle.checker.proofs.Forecasting.{none_foreseen, head_bits, foreseen}
+use Rattle.std.proofs.lemmas.Result.{err_from_is_err_and}
+use Rattle.checker.proofs.Forecasting.{none_foreseen, foreseen}
 use Rattle.checker.proofs.forecasts.foresee.Goals as goal
 
-pub returns-then-first-ne0 : goal.returns-then-first-ne0
-returns-then-first-ne0 c = search none_foreseen
-
-pub workspace_for-workspace-requires : goal.workspace_for-workspace-requires
-workspace_for-workspace-requires c = search head_bits
-
-pub most_trials-trials-requires : goal.most_trials-trials-requires
-most_trials-trials-requires c = search head_limits
+pub returns-in_err-head : goal.returns-in_err-head
+returns-in_err-head c =
+    let p = err_from_is_err_and c.from_residual.result c.from_residual.ensures.1 in
+    let e = c.in_err-head.ensures in
+    rw (p.1, p.2) (search none_foreseen)
 
 pub returns : goal.returns
-returns c = search foreseen
+returns c = let e = c.in_ok-head.ensures in search foreseen

@@ -1,9 +1,9 @@
--- `agrees` meets its contract. A byte fits a word.
-use Rattle.checker.proofs.Agreeing.{byte_fits, sums_agree}
+-- `agrees`: the limits of the head bound the width.
+use Rattle.design.proofs.Heading.{width_high}
 use Rattle.checker.proofs.stages.agrees.Goals as goal
 
-pub overflow_cast-result : goal.overflow_cast-result
-overflow_cast-result c = search byte_fits
+pub sum_of-secret-requires : goal.sum_of-secret-requires
+sum_of-secret-requires c = search width_high
 
-pub returns : goal.returns
-returns c = search sums_agree
+pub sum_of-requires : goal.sum_of-requires
+sum_of-requires c = search width_high

@@ -1,15 +1,16 @@
-use Rattle.std.proofs.Common.{arith}
-use Rattle.checker.proofs.EveryShare.{every_start, every_more, every_lacks, every_end}
+-- `names_every` meets its contract.
+use Rattle.std.proofs.Common.{ℕ, Bool, ◌∙◌, refl, rules, tests, arith}
+use Rattle.std.proofs.lemmas.Iterator.{YieldsList-from_range}
+use Rattle.std.proofs.lemmas.Iterator.Search.{all_from_yields_List}
+use Rattle.anf.specs.Terms.{named}
+use Rattle.threshold.specs.Inside.Variables.{variables, names_every}
+use Rattle.checker.proofs.Ranges.{all_range}
 use Rattle.checker.proofs.stages.names_every.Goals as goal
 
-pub loop-e-init : goal.loop-e-init
-loop-e-init c = search (arith, every_start)
-
-pub returns-then-not-names_one : goal.returns-then-not-names_one
-returns-then-not-names_one c = search every_lacks
-
-pub loop-e-preserved : goal.loop-e-preserved
-loop-e-preserved c = search (arith, every_more)
-
 pub returns : goal.returns
-returns c = search every_end
+unfolding names_every
+returns c =
+    let s = c.args.head.s in
+    let p : ℕ → Bool = λ j. named (variables c.args.head.m j) c.args.set in
+    all_from_yields_List p _ _ _ c.all.ensures.ran (YieldsList-from_range 0 s s refl (omega arith)) (λ j b q k. (search rules, search (rules, tests)))
+    ∙ all_range s p

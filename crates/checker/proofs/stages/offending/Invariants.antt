@@ -1,22 +1,18 @@
 -- `offending` meets its contract. No component passed depends on every share; the set has the variables that the lists and terms passed name, and lacks a share.
-use Rattle.std.proofs.Common.{◌-◌, ◌≡◌, ◌≤◌}
+use Rattle.std.specs.Prelude.{None}
+use Rattle.std.proofs.Common.{◌≡◌}
+use Rattle.records.specs.Inside.Terms.{left}
+use Rattle.design.specs.Design.{stage_of}
+use Rattle.design.specs.Reading.{meaning}
 use Rattle.checker.proofs.EveryShare.{OfLists, OfTerms, NoComponent}
 use Rattle.checker.proofs.stages.offending.Given as goal
 
-abbrev pub invariant-loop-i : goal.invariant-loop-i
-invariant-loop-i l = (l.i ≤ l.n) × (l.found ≡ l.initial.found) × OfTerms l.file l.layout l.t l.j l.b l.list l.i l.named
-
-abbrev pub decreases-loop-i : goal.decreases-loop-i
-decreases-loop-i l = l.n - l.i
+abbrev pub invariant-loop-term : goal.invariant-loop-term
+invariant-loop-term l =
+    (l.found ≡ l.initial.found) × OfTerms l.head.m l.head.s (stage_of (meaning l.design.file.now) l.t).lists l.j l.b l.named (left l.term-iterator)
 
 abbrev pub invariant-loop-b : goal.invariant-loop-b
-invariant-loop-b l = (l.b ≤ l.m) × (l.found ≡ l.initial.found) × OfLists l.file l.layout l.t l.j l.b l.named
-
-abbrev pub decreases-loop-b : goal.decreases-loop-b
-decreases-loop-b l = l.m - l.b
+invariant-loop-b l = (l.found ≡ l.initial.found) × OfLists l.head.m l.head.s (stage_of (meaning l.design.file.now) l.t).lists l.j l.b l.named
 
 abbrev pub invariant-components : goal.invariant-components
-invariant-components l = (l.j ≤ l.s) × (l.found ≡ l.s) × NoComponent l.file l.layout l.t l.j
-
-abbrev pub decreases-components : goal.decreases-components
-decreases-components l = l.s - l.j
+invariant-components l = (l.found ≡ None) × NoComponent l.head.m l.head.s (stage_of (meaning l.design.file.now) l.t) l.j

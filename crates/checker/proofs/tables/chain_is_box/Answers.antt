@@ -1,18 +1,12 @@
-use Rattle.std.proofs.Common.{arith}
-use Rattle.checker.proofs.Composing.{same_start, same_inside, same_next, same_not, same_all}
+-- `chain_is_box` meets its contract.
+use Rattle.checker.proofs.Composing.{box_within, box_taken, chain_same}
 use Rattle.checker.proofs.tables.chain_is_box.Goals as goal
 
-pub loop-x-init : goal.loop-x-init
-loop-x-init c = search (arith, same_start)
+pub slice_bounds-eq-end : goal.slice_bounds-eq-end
+slice_bounds-eq-end c = search box_within
 
-pub bounds-c-x : goal.bounds-c-x
-bounds-c-x c = search same_inside
-
-pub returns-then-c-x : goal.returns-then-c-x
-returns-then-c-x c = search same_not
-
-pub loop-x-preserved : goal.loop-x-preserved
-loop-x-preserved c = search (arith, same_next)
+pub slice_bounds-eq-end-2 : goal.slice_bounds-eq-end-2
+slice_bounds-eq-end-2 c = search box_taken
 
 pub returns : goal.returns
-returns c = search same_all
+returns c = search chain_same

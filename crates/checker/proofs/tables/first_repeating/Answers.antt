@@ -1,15 +1,13 @@
-use Rattle.std.proofs.Common.{arith}
-use Rattle.checker.proofs.Repeating.{none_yet, repeating_found, repeating_more, repeating_none}
+-- `first_repeating` meets its contract.
+use Rattle.std.proofs.Common.{◌≡◌, true, false, rules}
+use Rattle.std.proofs.lemmas.Iterator.{first_from_Range}
+use Rattle.design.specs.Reading.{meaning}
+use Rattle.checker.specs.Verdict.{table_repeats}
+use Rattle.checker.proofs.Ranges.{found_first}
 use Rattle.checker.proofs.tables.first_repeating.Goals as goal
 
-pub loop-t-init : goal.loop-t-init
-loop-t-init c = search (arith, none_yet)
-
-pub returns-then-repeats : goal.returns-then-repeats
-returns-then-repeats c = search repeating_found
-
-pub loop-t-preserved : goal.loop-t-preserved
-loop-t-preserved c = search (arith, repeating_more)
-
 pub returns : goal.returns
-returns c = search repeating_none
+returns c =
+    let p = table_repeats (meaning c.args.design.now.file.now) in
+    found_first c.args.design.now.head.k p _
+    (first_from_Range _ _ _ _ (λ t. p t ≡ true) (λ t. p t ≡ false) c.find.ensures.ran (λ t q k. search rules) (λ t q k. (search rules, search rules)))

@@ -2,17 +2,17 @@
 use Rattle.design.proofs.Faults.{head_short, other_kind, body_short, frame_good, wrong_length}
 use Rattle.design.proofs.reader.framed.Goals as goal
 
-pub returns-then-file-at-lt4 : goal.returns-then-file-at-lt4
-returns-then-file-at-lt4 c = search head_short
+pub returns-then-file-at-lt4-clause-reason : goal.returns-then-file-at-lt4-clause-reason
+returns-then-file-at-lt4-clause-reason c = search head_short
 
-pub returns-then-pair-kind : goal.returns-then-pair-kind
-returns-then-pair-kind c = search other_kind
+pub returns-then-u16_at-code-clause-reason : goal.returns-then-u16_at-code-clause-reason
+returns-then-u16_at-code-clause-reason c = search other_kind
 
-pub returns-then-file-at : goal.returns-then-file-at
-returns-then-file-at c = search body_short
+pub returns-then-not-length_fits-clause-reason : goal.returns-then-not-length_fits-clause-reason
+returns-then-not-length_fits-clause-reason c = search wrong_length
 
-pub returns-then-length_fits : goal.returns-then-length_fits
-returns-then-length_fits c = search frame_good
+pub returns-then-file-at-clause-reason : goal.returns-then-file-at-clause-reason
+returns-then-file-at-clause-reason c = search body_short
 
-pub returns : goal.returns
-returns c = search wrong_length
+pub returns-clause-reason : goal.returns-clause-reason
+returns-clause-reason c = search frame_good

@@ -1,9 +1,9 @@
 -- `design::read` meets its contract: the head record by `read_head`, the others by `walk`.
-use Rattle.design.proofs.Answering.{read_refused, head_read_lem, head_limits, head_faultless}
+use Rattle.design.proofs.Answering.{head_found, head_sound, read_refused}
 use Rattle.design.proofs.reader.read.Goals as goal
 
-pub returns-then-first-ne0 : goal.returns-then-first-ne0
-returns-then-first-ne0 c = search read_refused
-
 pub walk-requires : goal.walk-requires
-walk-requires c = search (head_limits, head_read_lem, head_faultless)
+walk-requires c = let e = c.in-Ok.ensures in search (head_found, head_sound)
+
+pub returns-in-Err-clause-layout : goal.returns-in-Err-clause-layout
+returns-in-Err-clause-layout c = let e = c.in-Err.ensures in search read_refused

@@ -1,22 +1,23 @@
--- `design::read_head` meets its contract: each way out is a law of `Answering`.
+-- `design::read_head` meets its contract: the frame's fault first, then the constructor's answer for the three bytes.
 use Rattle.std.proofs.Common.{lit<}
-use Rattle.design.proofs.Answering.{head_cut, head_there, head_good, head_beyond}
+use Rattle.std.proofs.lemmas.Result.{err_from_is_err_and}
+use Rattle.design.proofs.Answering.{head_cut, head_there, head_answered}
 use Rattle.design.proofs.reader.read_head.Goals as goal
 
-pub returns-then-r-ne0 : goal.returns-then-r-ne0
-returns-then-r-ne0 c = search head_cut
+pub returns-in_err-body : goal.returns-in_err-body
+returns-in_err-body c =
+    let p = err_from_is_err_and c.from_residual.result c.from_residual.ensures.1 in
+    let e = c.in_err-body.ensures in
+    rw (p.1, p.2) (search head_cut)
 
-pub bounds-file-4 : goal.bounds-file-4
-bounds-file-4 c = search (lit<, head_there)
+pub bounds-body-0 : goal.bounds-body-0
+bounds-body-0 c = let e = c.in_ok-body.ensures in search (lit<, head_there)
 
-pub bounds-file-5 : goal.bounds-file-5
-bounds-file-5 c = search (lit<, head_there)
+pub bounds-body-1 : goal.bounds-body-1
+bounds-body-1 c = let e = c.in_ok-body.ensures in search (lit<, head_there)
 
-pub bounds-file-6 : goal.bounds-file-6
-bounds-file-6 c = search (lit<, head_there)
+pub bounds-body-2 : goal.bounds-body-2
+bounds-body-2 c = let e = c.in_ok-body.ensures in search (lit<, head_there)
 
-pub returns-in-Good : goal.returns-in-Good
-returns-in-Good c = search head_good
-
-pub returns-in-Beyond : goal.returns-in-Beyond
-returns-in-Beyond c = search head_beyond
+pub returns : goal.returns
+returns c = let e = c.in_ok-body.ensures in search head_answered

@@ -1,18 +1,18 @@
-use Rattle.std.proofs.Common.{arith}
-use Rattle.design.proofs.Faults.{no_term, no_latest, term_no_rise, term_beyond, term_more, latest_more, terms_done}
+use Rattle.std.proofs.Common.{◌∙◌}
+use Rattle.design.proofs.Faults.{none_passed, all_passed, term_no_rise, term_beyond, term_more}
 use Rattle.design.proofs.reader.terms_fit.Goals as goal
 
-pub loop-j-init : goal.loop-j-init
-loop-j-init c = search (arith, no_term, no_latest)
+pub loop-t-init : goal.loop-t-init
+loop-t-init c = rw c.into_iter-t-iterator.ensures.into_iter_gives (none_passed _ _ _ (c.iter-t-items.ensures ∙ c.new.ensures))
 
-pub returns-then-not-up : goal.returns-then-not-up
-returns-then-not-up c = search term_no_rise
+pub loop-t-preserved : goal.loop-t-preserved
+loop-t-preserved c = let e = c.in-Some.ensures.steps in search term_more
+
+pub returns-then-not-rises : goal.returns-then-not-rises
+returns-then-not-rises c = let e = c.in-Some.ensures.steps in search term_no_rise
 
 pub returns-then-bound-t : goal.returns-then-bound-t
-returns-then-bound-t c = search term_beyond
-
-pub loop-j-preserved : goal.loop-j-preserved
-loop-j-preserved c = search (arith, term_more, latest_more)
+returns-then-bound-t c = let e = c.in-Some.ensures.steps in search term_beyond
 
 pub returns : goal.returns
-returns c = search terms_done
+returns c = let e = c.in-None.ensures.steps in search all_passed

@@ -1,9 +1,9 @@
--- `add_lists`: the lists from the place `at` on are added.
-use Rattle.threshold.proofs.Together.{AddedFrom}
+-- `add_lists`: the lists passed are added.
+use Rattle.std.proofs.Common.{◌≡◌, drop}
+use Rattle.finite.specs.Tests.{tabulate}
+use Rattle.design.specs.Inside.Lists.{lists_held}
+use Rattle.threshold.specs.Inside.Blocks.{coefficients}
 use Rattle.threshold.proofs.blocks.add_lists.Given as goal
 
-abbrev pub invariant-loop-at : goal.invariant-loop-at
-invariant-loop-at l = AddedFrom l.file l.starts l.first l.n l.high l.at l.next l.words
-
-abbrev pub decreases-loop-at : goal.decreases-loop-at
-decreases-loop-at l = l.at
+abbrev pub invariant-loop-i : goal.invariant-loop-i
+invariant-loop-i l = l.words ≡ tabulate 64 (coefficients l.high l.i (drop l.i (lists_held l.lists)))

@@ -1,11 +1,8 @@
-use Rattle.threshold.proofs.Together.{terms_start, terms_more, terms_end}
+use Rattle.threshold.proofs.Together.{terms_more, terms_end}
 use Rattle.threshold.proofs.blocks.add_terms.Goals as goal
 
-pub loop-i-init : goal.loop-i-init
-loop-i-init c = search terms_start
-
-pub loop-i-preserved : goal.loop-i-preserved
-loop-i-preserved c = search terms_more
+pub loop-term-preserved : goal.loop-term-preserved
+loop-term-preserved c = search (terms_more, c.in-Some.ensures.steps)
 
 pub returns : goal.returns
-returns c = search terms_end
+returns c = search (terms_end, c.in-None.ensures.steps.0)

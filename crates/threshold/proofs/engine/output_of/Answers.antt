@@ -1,14 +1,14 @@
-use Rattle.threshold.proofs.Evaluating.{from_start, from_inside, from_more, from_end, from_lt}
+use Rattle.threshold.proofs.Evaluating.{from_start, from_fits, from_more, from_end, from_lt}
 use Rattle.threshold.proofs.engine.output_of.Goals as goal
 
-pub loop-at-init : goal.loop-at-init
-loop-at-init c = search from_start
+pub loop-i-init : goal.loop-i-init
+loop-i-init c = search from_start
 
-pub bit_at-requires : goal.bit_at-requires
-bit_at-requires c = search from_inside
+pub overflow_add-y : goal.overflow_add-y
+overflow_add-y c = search from_fits
 
-pub loop-at-preserved : goal.loop-at-preserved
-loop-at-preserved c = search from_more
+pub loop-i-preserved : goal.loop-i-preserved
+loop-i-preserved c = search from_more
 
 pub returns : goal.returns
 returns c = search (from_end, from_lt)

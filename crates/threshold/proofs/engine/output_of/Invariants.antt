@@ -1,9 +1,7 @@
--- `threshold::output_of` meets its contract. The invariant: y is the output of the lists from the place `at` on.
+-- `output_of`: y is the output of the lists passed.
+use Rattle.design.specs.Inside.Lists.{lists_held}
 use Rattle.threshold.proofs.Evaluating.{OutputFrom}
 use Rattle.threshold.proofs.engine.output_of.Given as goal
 
-abbrev pub invariant-loop-at : goal.invariant-loop-at
-invariant-loop-at l = OutputFrom l.file l.starts l.first l.n l.x l.at l.next l.y
-
-abbrev pub decreases-loop-at : goal.decreases-loop-at
-decreases-loop-at l = l.at
+abbrev pub invariant-loop-i : goal.invariant-loop-i
+invariant-loop-i l = OutputFrom (lists_held l.lists) l.x l.i l.y

@@ -1,24 +1,13 @@
-use Rattle.std.proofs.Common.{arith}
-use Rattle.threshold.proofs.Sending.{unread, read_width, unfit, run_start, run_fits, run_more, run_end}
+-- `run`: a file that does not read is refused, another is run.
+use Rattle.std.proofs.lemmas.Result.{err_from_is_err_and}
+use Rattle.threshold.proofs.Sending.{unread, same_file}
 use Rattle.threshold.proofs.runs.run.Goals as goal
 
-pub returns-then-layout-ne0 : goal.returns-then-layout-ne0
-returns-then-layout-ne0 c = search unread
-
-pub shares_fit-requires : goal.shares_fit-requires
-shares_fit-requires c = search read_width
-
-pub returns-then-not-shares_fit : goal.returns-then-not-shares_fit
-returns-then-not-shares_fit c = search unfit
-
-pub loop-t-init : goal.loop-t-init
-loop-t-init c = search (arith, run_start)
-
-pub run_stage-next-requires : goal.run_stage-next-requires
-run_stage-next-requires c = search (arith, run_fits)
-
-pub loop-t-preserved : goal.loop-t-preserved
-loop-t-preserved c = search (arith, run_more)
+pub returns-in_err-read : goal.returns-in_err-read
+returns-in_err-read c =
+    let p = err_from_is_err_and c.from_residual.result c.from_residual.ensures.1 in
+    let e = c.in_err-read.ensures in
+    rw (p.1, p.2) (search unread)
 
 pub returns : goal.returns
-returns c = search run_end
+returns c = let e = c.in_ok-read.ensures in search same_file

@@ -1,0 +1,9 @@
+-- `design::Head::share_bits` meets its contract: the limits bound the number.
+use Rattle.design.proofs.Heading.{bits_fit, bits_low}
+use Rattle.design.proofs.heads.Head.share_bits.Goals as goal
+
+pub overflow_mul-result : goal.overflow_mul-result
+overflow_mul-result c = search bits_fit
+
+pub returns : goal.returns
+returns c = search bits_low

@@ -1,0 +1,28 @@
+-- The code's head as the definitions see it.
+use Rattle.std.specs.Prelude.{ℕ, List, Result, Ok, Err}
+use Rattle.design.specs.Limits.{Head}
+use Rattle.design.specs.Layout.{HeadRead, refused_head, Layout}
+use Rattle.design.specs.declared.heads.Head as heads
+use Rattle.reasons.specs.declared.Reason.{Reason}
+use Rattle.reasons.specs.Numbers.{number}
+
+-- its three numbers
+abbrev pub numbers : heads.Head → Head
+numbers h = record { m = h.m; s = h.s; k = h.k }
+
+-- the answer of its constructor
+abbrev pub head_outcome : Result heads.Head Reason → Result Head Reason
+head_outcome (Ok h) = Ok (numbers h)
+head_outcome (Err r) = Err r
+
+-- the answer of reading the head record alone
+abbrev pub head_reading : Result heads.Head Reason → HeadRead
+head_reading (Ok h) = record { reason = 0; head = numbers h }
+head_reading (Err r) = refused_head (number r)
+
+-- the layout of a file that reads, with a head of these numbers, or this head, and these starts
+abbrev pub laid_by : (m s k : ℕ) → List ℕ → Layout
+laid_by m s k starts = record { reason = 0; place = 0; head = record { m = m; s = s; k = k }; starts = starts }
+
+abbrev pub laid : heads.Head → List ℕ → Layout
+laid h starts = laid_by h.m h.s h.k starts

@@ -1,0 +1,7 @@
+-- A run of lists of a stage, as the definitions see it.
+use Rattle.std.specs.Prelude.{ℕ, List}
+use Rattle.design.specs.Inside.StageLists.{lists_in}
+use Rattle.design.specs.declared.lists.Lists.{Lists}
+
+abbrev pub lists_held : Lists → List (List ℕ)
+lists_held x = lists_in x.file.now x.starts.now

@@ -1,0 +1,95 @@
+// A design file that reads: its tables and lists, as parts of it. Stages and lists are counted from 0.
+ghost use Rattle.std.specs.Prelude.{◌≡◌, map, ◌*◌, ◌<◌};
+ghost use Rattle.records.specs.Bytes.{Bytes};
+ghost use Rattle.records.specs.Records.{join};
+ghost use Rattle.design.specs.Design.{stage_of, list_of};
+ghost use Rattle.design.specs.Encode.{stage_bytes};
+ghost use Rattle.design.specs.Reading.{meaning};
+ghost use Rattle.design.specs.Inside.Described.{Describes};
+ghost use Rattle.design.specs.Heads.{laid};
+
+use super::reader::body_size;
+use super::{GREATEST_RECORDS, Head, Lists};
+use reasons::Reason;
+use records::{Terms, record_size};
+
+/// Why a file does not read, and where: the first byte of the record at fault, or the first after the end.
+#[derive(Clone, Copy, Debug, PartialEq, Eq)]
+pub struct ReadError {
+    pub reason: Reason,
+    pub place: usize,
+}
+
+impl From<ReadError> for Reason {
+    ghost use Rattle.std.specs.Prelude.{◌≡◌};
+
+    ghost from_gives = { λ error reason. reason ≡ error.reason };
+
+    fn from(error: ReadError) -> Reason {
+        error.reason
+    }
+}
+
+/// A file that reads as a design: its head, and where the body of each record starts, in fixed memory. A stage is named by its number, below k: a struct of
+/// the file and that number would be no plainer, as each loop over stages would have to make one.
+#[derive(Clone, Copy)]
+pub struct DesignFile<'a> {
+    pub file: &'a [u8],
+    pub head: Head,
+    pub starts: [usize; GREATEST_RECORDS],
+    pub ghost bytes: { Bytes file.now },
+    pub ghost described: { Describes file.now (laid head starts) },
+}
+
+impl<'a> DesignFile<'a> {
+    ghost use Rattle.records.specs.Inside.Terms.{terms_of};
+    ghost use Rattle.design.specs.Inside.Lists.{lists_held};
+
+    /// The box S.
+    pub fn box_table(&self) -> &'a [u8]
+        ensures { result.now ≡ (meaning self.now.file.now).box }
+    {
+        let from = self.starts[1];
+        &self.file[from..from + self.head.points()]
+    }
+
+    /// The table of stage `t`.
+    pub fn table(&self, t: usize) -> &'a [u8]
+        requires { t < self.now.head.k }
+        ensures { result.now ≡ (stage_of (meaning self.now.file.now) t).table }
+    {
+        let from = self.starts[self.head.number(t, 0)];
+        &self.file[from..from + self.head.points()]
+    }
+
+    /// List `l` of stage `t`.
+    pub fn list(&self, t: usize, l: usize) -> Terms<'a>
+        requires { (t < self.now.head.k) × (l < self.now.head.m * self.now.head.s) }
+        ensures { terms_of result ≡ list_of (meaning self.now.file.now) t l }
+    {
+        let from = self.starts[self.head.number(t, l + 1)];
+        let n = body_size(self.file, from - 4);
+        Terms::new(&self.file[from..from + n])
+    }
+
+    /// The lists of stage `t`.
+    pub fn lists(&self, t: usize) -> Lists<'_>
+        requires { t < self.now.head.k }
+        ensures { lists_held result ≡ (stage_of (meaning self.now.file.now) t).lists }
+    {
+        let first = self.head.number(t, 1);
+        Lists {
+            file: self.file,
+            starts: &self.starts[first..first + self.head.share_bits() + 1],
+        }
+    }
+
+    /// The records of all stages, one behind the other: what stands between those of the head and the box and that of the end.
+    pub fn stages(&self) -> &'a [u8]
+        ensures { result.now ≡ join (map stage_bytes (meaning self.now.file.now).stages) }
+    {
+        let from = record_size(3) + record_size(self.head.points());
+        let end = self.file.len() - record_size(0);
+        &self.file[from..end]
+    }
+}

@@ -1,0 +1,45 @@
+// Lists of a stage that stand one behind the other in a file.
+ghost use Rattle.std.specs.Prelude.{◌≡◌, ◌+◌, ◌*◌, ◌≤◌, ◌<◌, [], length, get_or, take, drop};
+ghost use Rattle.design.specs.Limits.{greatest_share_bits};
+ghost use Rattle.design.specs.Inside.StageLists.{Stands};
+
+use records::Terms;
+
+/// Lists of a stage: where the body of each starts in the file, and where that of the record behind them does.
+#[derive(Clone, Copy)]
+pub struct Lists<'a> {
+    pub file: &'a [u8],
+    pub starts: &'a [usize],
+    pub ghost stands: { Stands file.now starts.now },
+}
+
+impl<'a> Lists<'a> {
+    ghost use Rattle.records.specs.Inside.Terms.{terms_of};
+    ghost use Rattle.design.specs.Inside.Lists.{lists_held};
+
+    /// How many they are.
+    pub fn len(&self) -> usize
+        ensures { (result ≡ length (lists_held self.now)) × (result ≤ greatest_share_bits) }
+    {
+        self.starts.len() - 1
+    }
+
+    /// List `i`.
+    pub fn list(&self, i: usize) -> Terms<'a>
+        requires { i < length (lists_held self.now) }
+        ensures { terms_of result ≡ get_or (lists_held self.now) i [] }
+    {
+        Terms::new(&self.file[self.starts[i]..self.starts[i + 1] - 4])
+    }
+
+    /// The `n` lists from `from` on.
+    pub fn part(&self, from: usize, n: usize) -> Lists<'a>
+        requires { from + n ≤ length (lists_held self.now) }
+        ensures { lists_held result ≡ take n (drop from (lists_held self.now)) }
+    {
+        Lists {
+            file: self.file,
+            starts: &self.starts[from..from + n + 1],
+        }
+    }
+}

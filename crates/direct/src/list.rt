@@ -1,0 +1,78 @@
+// A list of terms that grows, in fixed memory.
+ghost use Rattle.std.specs.Prelude.{ℕ, ◌≡◌, ◌<◌, ◌≤◌, List, [], length, take, position};
+ghost use Rattle.anf.specs.Terms.{before};
+ghost use Rattle.design.specs.Limits.{greatest_terms};
+ghost use Rattle.direct.specs.Inside.Expanding.{placed_in};
+
+use design::GREATEST_TERMS;
+use records::stands_before;
+use std::marker::Model;
+
+// Where the first term is that the term t stands before.
+fn first_behind(terms: &[u32], t: u32) -> Option<usize>
+    ensures { result ≡ position (before t) terms.now }
+{
+    terms.iter().position(|x| stands_before(t, *x))
+}
+
+/// A list of terms, no longer than the longest list of a design.
+#[derive(Drop)]
+pub struct TermList {
+    terms: [u32; GREATEST_TERMS],
+    len: usize,
+}
+
+// Clauses see the terms.
+impl Model for TermList {
+    ghost Value = { List ℕ };
+
+    ghost view = { λ l. take l.len l.terms };
+
+    ghost invariant = { λ l. l.len ≤ greatest_terms };
+}
+
+impl TermList {
+    /// The list of no term.
+    pub fn new() -> TermList
+        ensures { result ≡ [] }
+    {
+        TermList {
+            terms: [0; GREATEST_TERMS],
+            len: 0,
+        }
+    }
+
+    /// How many terms there are.
+    pub fn len(&self) -> usize
+        ensures value { result ≡ length self.now }
+        ensures most { result ≤ greatest_terms }
+    {
+        self.as_slice().len()
+    }
+
+    /// The terms in their order.
+    pub fn as_slice(&self) -> &[u32]
+        ensures value { result.now ≡ self.now }
+        ensures most { length self.now ≤ greatest_terms }
+    {
+        &self.terms[..self.len]
+    }
+
+    /// Takes all terms out.
+    pub fn clear(&mut self)
+        ensures { self.new ≡ [] }
+    {
+        self.len = 0;
+    }
+
+    /// Puts the term t into its place.
+    pub fn insert(&mut self, t: u32)
+        requires { length self.old < greatest_terms }
+        ensures { self.new ≡ placed_in t self.old }
+    {
+        let at = first_behind(&self.terms[..self.len], t).unwrap_or(self.len);
+        self.terms[self.len] = t;
+        self.len += 1;
+        self.terms[at..self.len].rotate_right(1);
+    }
+}

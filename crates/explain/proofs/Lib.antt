@@ -1,2 +1,0 @@
--- Laws of printing.
-pub mod Printing

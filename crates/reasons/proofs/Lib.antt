@@ -1,0 +1,2 @@
+-- Laws of the published reasons.
+pub mod Numbers

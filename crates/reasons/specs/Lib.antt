@@ -1,0 +1,2 @@
+-- The published reasons.
+pub mod Numbers

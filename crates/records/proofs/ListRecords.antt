@@ -1,0 +1,59 @@
+-- The records of lists: how long one is, and those of some lists, one behind the other.
+use mathlib.Core.Path.{◌≡◌, refl, sym, ap, ◌∙◌}
+use mathlib.Core.List.{List, [], ◌∷◌, ◌++◌, append_assoc}
+use Prim.Native.Nat.{ℕ, ◌+◌, ◌*◌, ◌≤◌, ◌<◌}
+use native.Mathlib.Numerals.{add-one}
+use native.Mathlib.Omega.{arith}
+use lib.ListN.{length, get_or, take, drop, length-take, length-append, take-append-drop}
+use lib.Seq.{take-suc, take-length}
+use Rattle.records.specs.Bytes.{four, term_bytes}
+use Rattle.records.specs.Records.{join, list_record}
+use Rattle.records.specs.Inside.Overwriting.{list_records}
+use Rattle.records.proofs.Joined.{join_map_append}
+use Rattle.records.proofs.TermBytes.{length_term_bytes}
+use Rattle.records.proofs.Overwriting.{record_length, join_more}
+
+-- ---- terms
+
+term_bytes_append : (a b : List ℕ) → term_bytes (a ++ b) ≡ term_bytes a ++ term_bytes b
+unfolding term_bytes
+term_bytes_append [] b = refl
+term_bytes_append (t ∷ a) b = ap (λ (l : List ℕ). four t ++ l) (term_bytes_append a b) ∙ sym (append_assoc (four t) (term_bytes a) (term_bytes b))
+
+pub term_bytes_more : (l : List ℕ) (j : ℕ) → j < length l → term_bytes (take (j + 1) l) ≡ term_bytes (take j l) ++ four (get_or l j 0)
+unfolding term_bytes
+term_bytes_more l j h =
+    ap (λ (k : ℕ). term_bytes (take k l)) (add-one j) ∙ ap term_bytes (take-suc l j 0 h) ∙ term_bytes_append (take j l) (get_or l j 0 ∷ [])
+
+pub taken_length : (l : List ℕ) (n : ℕ) → n ≤ length l → length (term_bytes (take n l)) ≡ 4 * n
+taken_length l n h = length_term_bytes (take n l) ∙ omega (arith, length-take n l)
+
+pub list_record_length : (ts : List ℕ) → length (list_record ts) ≡ 4 + 4 * length ts
+list_record_length ts = record_length 3 (term_bytes ts) ∙ omega (arith, length_term_bytes ts)
+
+-- ---- the records of lists, one behind the other
+
+records_append : (a b : List (List ℕ)) → list_records (a ++ b) ≡ list_records a ++ list_records b
+unfolding list_records
+records_append a b = join_map_append list_record a b
+
+pub records_none : (ls : List (List ℕ)) → list_records (take 0 ls) ≡ []
+unfolding list_records join
+records_none ls = refl
+
+pub records_more : (ls : List (List ℕ)) (i : ℕ) → i < length ls → list_records (take (i + 1) ls) ≡ list_records (take i ls) ++ list_record (get_or ls i [])
+unfolding list_records
+records_more ls i h = join_more list_record ls i [] h
+
+pub records_all : (ls : List (List ℕ)) → list_records (take (length ls) ls) ≡ list_records ls
+records_all ls = ap list_records (take-length ls)
+
+pub records_within : (ls : List (List ℕ)) (i : ℕ) → i < length ls → length (list_records (take i ls)) + length (list_record (get_or ls i [])) ≤ length (list_records ls)
+records_within ls i h =
+    omega (
+      arith,
+      ap length (records_more ls i h),
+      length-append (list_records (take i ls)) (list_record (get_or ls i [])),
+      ap length (ap list_records (sym (take-append-drop (i + 1) ls)) ∙ records_append (take (i + 1) ls) (drop (i + 1) ls)),
+      length-append (list_records (take (i + 1) ls)) (list_records (drop (i + 1) ls)),
+    )
