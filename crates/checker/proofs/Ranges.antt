@@ -16,8 +16,8 @@ use Rattle.std.proofs.lemmas.Iterator.{YieldsList, zips, YieldsList-from_range, 
 use Rattle.std.proofs.lemmas.Iterator.Consumers.{YieldsList-from_first, YieldsList-turn, YieldsList-end}
 use Rattle.std.proofs.lemmas.List.FromFn.{length-range_with_len, get_or-range_with_len}
 use Rattle.std.proofs.lemmas.Slice.Zip.{length-zip, get_or-zip}
-use Rattle.std.proofs.Math.Bool.{and_assoc}
 use Rattle.finite.specs.Tests.{all, tabulate}
+use Rattle.finite.proofs.Lists.{all_first}
 use Rattle.finite.proofs.Testing.{none_any, all_congr, tabulate_length, tabulate_at}
 use Rattle.threshold.specs.Stages.{output}
 use Rattle.threshold.specs.Inside.Outputs.{left}
@@ -33,15 +33,6 @@ found_first n p None h = found_none n p (none_any n p (λ k l. h k (omega arith)
 found_first n p (Some i) h = found_at n p i h.1 (none_any i p (λ k l. h.3 k (omega arith) l)) h.2
 
 -- `all`
-and_true : (b : Bool) → b ≡ (b && true)
-and_true true = refl
-and_true false = refl
-
-all_first : (n : ℕ) (p : ℕ → Bool) → all (suc n) p ≡ (p 0 && all n (λ i. p (suc i)))
-unfolding all
-all_first zero p = and_true (p 0)
-all_first (suc n) p = ap (λ (b : Bool). b && p (suc n)) (all_first n p) ∙ and_assoc (p 0) (all n (λ i. p (suc i))) (p (suc n))
-
 all_from : (n a : ℕ) (p : ℕ → Bool) → list_all p (range_with_len a n) ≡ all n (λ i. p (a + i))
 unfolding all
 all_from zero a p = refl

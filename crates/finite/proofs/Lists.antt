@@ -22,7 +22,7 @@ or_none true = refl
 or_none false = refl
 
 -- the first number apart, as a list has its first element apart
-all_first : (n : ℕ) (p : ℕ → Bool) → all (suc n) p ≡ (p 0 && all n (λ i. p (suc i)))
+pub all_first : (n : ℕ) (p : ℕ → Bool) → all (suc n) p ≡ (p 0 && all n (λ i. p (suc i)))
 unfolding all
 all_first zero p = and_true (p 0)
 all_first (suc n) p = ap (λ (b : Bool). b && p (suc n)) (all_first n p) ∙ and_assoc (p 0) (all n (λ i. p (suc i))) (p (suc n))

@@ -32,7 +32,7 @@ terms_cons l at h =
     ∙ ap (◌∷◌ (get_or l (suc at) 0)) (drop-cons l (suc (suc at)) 0 (omega arith)
     ∙ ap (◌∷◌ (get_or l (suc (suc at)) 0)) (drop-cons l (suc (suc (suc at))) 0 (omega arith))))))
 
-terms_short : (l : List ℕ) → length l < 4 → terms l ≡ []
+pub terms_short : (l : List ℕ) → length l < 4 → terms l ≡ []
 unfolding terms
 terms_short [] h = refl
 terms_short (a ∷ []) h = refl
@@ -123,9 +123,6 @@ module _ (ts l : List ℕ) (x v : ℕ) (i : bit_xor v (value_at l x) ≡ value_a
   value_all e = sym (xor_zero_r v) ∙ rw e at i
 
 -- ---- going over a list: l are the bytes that are left, f the first four
-
-pub none_left : (l : List ℕ) → length l < 4 → terms l ≡ []
-none_left l h = terms_short l h
 
 pub first_left : (l f r : List ℕ) (n : ℕ) → (f ≡ take 4 l) × (r ≡ drop 4 l) × (length r + 4 ≡ length l) → n ≡ from_le_bytes w32 f → terms l ≡ n ∷ terms r
 unfolding terms

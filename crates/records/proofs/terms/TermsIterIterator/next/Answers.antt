@@ -1,9 +1,9 @@
 -- `next` meets its contract: the first four bytes that are left are the first term, and fewer than four are none.
-use Rattle.records.proofs.TermBytes.{none_left, first_left, fewer_left}
+use Rattle.records.proofs.TermBytes.{terms_short, first_left, fewer_left}
 use Rattle.records.proofs.terms.TermsIterIterator.next.Goals as goal
 
 pub returns-in_err-term-clause-steps : goal.returns-in_err-term-clause-steps
-returns-in_err-term-clause-steps c = rw c.from_residual.ensures (none_left _ c.in_err-term.ensures.cases, none_left _ c.in_err-term.ensures.cases)
+returns-in_err-term-clause-steps c = rw c.from_residual.ensures (terms_short _ c.in_err-term.ensures.cases, terms_short _ c.in_err-term.ensures.cases)
 
 pub returns-clause-steps : goal.returns-clause-steps
 returns-clause-steps c = first_left _ _ _ _ c.in_ok-term.ensures.cases c.from_le_bytes.ensures
