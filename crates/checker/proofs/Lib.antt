@@ -5,7 +5,7 @@ pub mod Passes
 pub mod Ranges
 pub mod Marking
 pub mod Repeating
-pub mod Composing
+pub mod Chaining
 pub mod Agreeing
 pub mod EveryShare
 pub mod Steps

@@ -39,7 +39,9 @@ pub fn tries(head: Head, found: Option<u32>) -> usize
     }
 }
 
-// The first sharing at which stage `t` is not correct.
+// The first sharing at which stage `t` is not correct. The passes over sharings are functions of their own when compiled too, so that the rest of a verdict
+// takes none of their registers.
+#[inline(never)]
 pub fn first_wrong(design: &DesignFile<'_>, t: usize) -> Option<u32>
     requires { t < design.now.head.k }
     ensures { result ≡ first_wrong design.now.head.m design.now.head.s (stage_of (meaning design.now.file.now) t) }
@@ -98,6 +100,7 @@ pub fn offending(design: &DesignFile<'_>, t: usize) -> Option<usize>
 
 // Marks the output of each sharing, up to the first that is marked already, which it gives. It has the loop of `first_wrong` with another test: one
 // function for both, with the test as a closure, is no plainer, as its contract has to say which marks the closure leaves in what it borrows.
+#[inline(never)]
 fn first_met_in(lists: &Lists<'_>, workspace: &mut [u8]) -> Option<u32>
     requires { (3 ≤ length (lists_held lists.now)) × (2 ^ length (lists_held lists.now) / 8 ≤ length workspace.old) × Clear (2 ^ length (lists_held lists.now)) workspace.old }
     ensures value { result ≡ found (2 ^ length (lists_held lists.now)) (met_before (output (lists_held lists.now))) }

@@ -1,55 +1,33 @@
 // The tables: their chain, and the first that repeats an entry.
-ghost use Rattle.std.specs.Prelude.{◌≡◌, ℕ, ◌≤◌, ◌<◌, length, get_or};
-ghost use Rattle.design.specs.Limits.{greatest_points};
+ghost use Rattle.std.specs.Prelude.{◌≡◌, ◌^◌, ◌<◌};
 ghost use Rattle.design.specs.Reading.{meaning};
+ghost use Rattle.threshold.specs.Chain.{chained};
 ghost use Rattle.checker.specs.Verdict.{chain_is_box, table_repeats};
-ghost use Rattle.checker.specs.Inside.Parts.{Composes, found};
+ghost use Rattle.checker.specs.Inside.Parts.{found};
 
-use design::{DesignFile, GREATEST_POINTS};
+use design::DesignFile;
 
-// The numbers from 0 on, each at its own place, in fixed memory as all tables here. With std's `from_fn` the clause would stand at a closure, which is no
-// plainer.
-fn identity() -> [u8; GREATEST_POINTS]
-    ensures { (x : ℕ) → x < greatest_points → get_or result x 0 ≡ x }
+// What the tables of the stages make of `x`: that of the first stage is applied first.
+fn chained(design: &DesignFile<'_>, x: usize) -> usize
+    requires { x < 2 ^ design.now.head.m }
+    ensures { result ≡ chained (meaning design.now.file.now).stages x }
 {
-    let mut numbers = [0u8; GREATEST_POINTS];
-    for x in 0..GREATEST_POINTS {
-        numbers[x] = x as u8;
-    }
-    numbers
-}
-
-// The first `n` entries of `from`, each replaced by what the table makes of it.
-fn through(table: &[u8], n: usize, from: [u8; GREATEST_POINTS]) -> [u8; GREATEST_POINTS]
-    requires { (n ≤ greatest_points) × ((x : ℕ) → x < n → get_or from x 0 < length table.now) }
-    ensures { (x : ℕ) → x < n → get_or result x 0 ≡ get_or table.now (get_or from x 0) 0 }
-{
-    let mut out = [0u8; GREATEST_POINTS];
-    for x in 0..n {
-        out[x] = table[usize::from(from[x])];
-    }
-    out
-}
-
-// The table of the chain, in bytes of its own, as many as a table has at most: that of the first stage is applied first.
-fn composed(design: &DesignFile<'_>) -> [u8; GREATEST_POINTS]
-    ensures { Composes (meaning design.now.file.now) design.now.head.m result }
-{
-    let mut chain = identity();
+    let mut y = x;
     for t in 0..design.head.k {
-        // An array that a call answers goes into a variable of its own, or the check has no proof of it.
-        let next = through(design.table(t), design.head.points(), chain);
-        chain = next;
+        y = usize::from(design.table(t)[y]);
     }
-    chain
+    y
 }
 
 // Whether the chain of tables is S.
 pub fn chain_is_box(design: &DesignFile<'_>) -> bool
     ensures { result ≡ chain_is_box (meaning design.now.file.now) }
 {
-    let s_box = design.box_table();
-    &composed(design)[..s_box.len()] == s_box
+    (0..design.head.points()).all(
+        |x|
+            requires { x < 2 ^ design.now.head.m }
+        { chained(design, x) == usize::from(design.box_table()[x]) },
+    )
 }
 
 // Whether the table of stage `t` repeats an entry.

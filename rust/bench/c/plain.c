@@ -183,7 +183,6 @@ jestrunas_forecast_t NAME(forecast)(const uint8_t *file, size_t file_len) {
 
 jestrunas_judged_t NAME(judge)(const uint8_t *file, size_t file_len, uint8_t *ws, size_t ws_len) {
     layout d = {0};
-    uint8_t c[64];
     jestrunas_verdict_t read = read_layout(file, file_len, &d);
     jestrunas_judged_t v = {read.reason, read.place, read.component, 0};
     if (v.reason) return v;
@@ -191,10 +190,11 @@ jestrunas_judged_t NAME(judge)(const uint8_t *file, size_t file_len, uint8_t *ws
     if (repeats(file + d.start[1], size)) { v.reason = 8; return v; }
     if (ws_len < bytes) { v.reason = 9; return v; }
     memset(ws, 0, bytes);
-    for (size_t x = 0; x < size; x++) c[x] = (uint8_t)x;
-    for (size_t g = 0; g < d.k; g++)
-        for (size_t x = 0; x < size; x++) c[x] = file[d.start[table_record(&d, g)] + c[x]];
-    if (memcmp(c, file + d.start[1], size)) { v.reason = 10; return v; }
+    for (size_t x = 0; x < size; x++) {
+        size_t y = x;
+        for (size_t g = 0; g < d.k; g++) y = file[d.start[table_record(&d, g)] + y];
+        if (y != file[d.start[1] + x]) { v.reason = 10; return v; }
+    }
     for (size_t g = 0; g < d.k; g++)
         if (repeats(file + d.start[table_record(&d, g)], size)) { v.reason = 11; v.place = g + 1; return v; }
     for (size_t g = 0; g < d.k; g++) {

@@ -4,7 +4,6 @@ use Rattle.finite.specs.Tests.{pick, any, first}
 use Rattle.finite.specs.Faults.{first_fault}
 use Rattle.anf.specs.Terms.{names}
 use Rattle.design.specs.Design.{Stage, Design, stage_of}
-use Rattle.threshold.specs.Chain.{chained}
 use Rattle.checker.specs.Verdict.{answer, table_repeats, stage_faults, stages_faults, faults}
 use Rattle.checker.specs.Trials.{sums_wrong, output_met, correctness_at, uniformity_at}
 use Rattle.checker.specs.Outcome.{refused_with}
@@ -22,10 +21,6 @@ stages_judged d = first_fault (stages_faults d 1 d.stages) (answer 0 d.k 0)
 -- the verdict where neither of the first two faults is there, 8 and 9: the workspace does not matter then
 unfoldable pub chain_judged : Design → Verdict
 chain_judged d = first_fault (drop 2 (faults d 0)) (answer 0 d.k 0)
-
--- the first 2^m bytes hold what the chain of tables makes of their places
-unfoldable pub Composes : Design → ℕ → List ℕ → Type 0
-Composes d m c = (x : ℕ) → x < 2 ^ m → get_or c x 0 ≡ chained d.stages x
 
 -- ---- The first of n numbers, from 0 on, at which a test passes, and how many are tried to find it
 

@@ -1,12 +1,19 @@
 -- `chain_is_box` meets its contract.
-use Rattle.checker.proofs.Composing.{box_within, box_taken, chain_same}
+use Rattle.std.proofs.Common.{ℕ, Bool, ◌∙◌, refl, rules, tests, arith, eqb}
+use Rattle.std.proofs.lemmas.Iterator.{YieldsList-from_range}
+use Rattle.std.proofs.lemmas.Iterator.Search.{all_from_yields_List}
+use Rattle.anf.specs.Tables.{entry}
+use Rattle.design.specs.Reading.{meaning}
+use Rattle.threshold.specs.Chain.{chained}
+use Rattle.checker.proofs.Ranges.{all_range}
+use Rattle.checker.proofs.Chaining.{every_entry}
 use Rattle.checker.proofs.tables.chain_is_box.Goals as goal
 
-pub slice_bounds-eq-end : goal.slice_bounds-eq-end
-slice_bounds-eq-end c = search box_within
-
-pub slice_bounds-eq-end-2 : goal.slice_bounds-eq-end-2
-slice_bounds-eq-end-2 c = search box_taken
-
 pub returns : goal.returns
-returns c = search chain_same
+returns c =
+    let n = c.points.result in
+    let d = meaning c.args.design.now.file.now in
+    let p : ℕ → Bool = λ x. eqb (chained d.stages x) (entry d.box x) in
+    all_from_yields_List p _ _ _ c.all.ensures.ran (YieldsList-from_range 0 n n refl (omega arith)) (λ j b q k. (search rules, search (rules, tests)))
+    ∙ all_range n p
+    ∙ search every_entry
