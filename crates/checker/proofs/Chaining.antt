@@ -13,23 +13,18 @@ use Rattle.design.specs.Reading.{meaning}
 use Rattle.design.specs.Inside.Described.{Describes}
 use Rattle.design.specs.Heads.{laid_by}
 use Rattle.design.proofs.Answered.{described}
+use Rattle.design.proofs.StageLists.{stages_length}
 use Rattle.threshold.specs.Chain.{chained}
 use Rattle.threshold.proofs.Tables.{chained_lt, chained_next, chained_all}
 use Rattle.checker.specs.Verdict.{chain_is_box}
-use Rattle.checker.proofs.StageFacts.{table_points}
+use Rattle.checker.proofs.StageFacts.{same_points, table_points}
 
 module _ (f starts : List ℕ) (m s k : ℕ) (d : Describes f (laid_by m s k starts)) where
-  many : length (meaning f).stages ≡ k
-  many = (described d).formed.count ∙ sym (described d).k
-
-  same_points : 2 ^ m ≡ 2 ^ (meaning f).m
-  same_points = ap (λ (x : ℕ). 2 ^ x) (described d).m
-
   -- ---- `chained`: y is what the first t tables make of x, b the table of stage t
 
   module _ (x y t : ℕ) (e : y ≡ chained (take t (meaning f).stages) x) where
     pub chained_end : t ≤ k → k ≤ t → y ≡ chained (meaning f).stages x
-    chained_end up low = e ∙ chained_all (meaning f).stages t x (omega (arith, many))
+    chained_end up low = e ∙ chained_all (meaning f).stages t x (omega (arith, stages_length f _ d))
 
     module _ (h : t < k) (b : List ℕ) (eb : b ≡ (stage_of (meaning f) t).table) where
       pub chained_within : x < 2 ^ m → y < length b
@@ -37,21 +32,21 @@ module _ (f starts : List ℕ) (m s k : ℕ) (d : Describes f (laid_by m s k sta
           let w = (described d).formed in
           let points = 2 ^ (meaning f).m in
           let z : chained (take t (meaning f).stages) x < points =
-          chained_lt points (meaning f).stages (λ i j. (w.stage i (omega (arith, w.count))).table.below) t x (omega (arith, many)) (omega (arith, same_points)) in
-          omega (arith, table_points f starts m s k d t h b eb, same_points)
+          chained_lt points (meaning f).stages (λ i j. (w.stage i (omega (arith, w.count))).table.below) t x (omega (arith, stages_length f _ d)) (omega (arith, same_points f starts m s k d)) in
+          omega (arith, table_points f starts m s k d t h b eb, same_points f starts m s k d)
 
       pub chained_step : (v : ℕ) → v ≡ get_or b y 0 → v ≡ chained (take (t + 1) (meaning f).stages) x
       chained_step v ev =
           ev
           ∙ ap (λ (l : List ℕ). get_or l y 0) eb
           ∙ ap (λ (z : ℕ). get_or (stage_of (meaning f) t).table z 0) e
-          ∙ sym (chained_next (meaning f).stages t x (omega (arith, many)))
+          ∙ sym (chained_next (meaning f).stages t x (omega (arith, stages_length f _ d)))
 
   -- ---- `chain_is_box`: b is S, n the number of its entries
 
   pub entry_within : (b : List ℕ) → b ≡ (meaning f).box → (x : ℕ) → x < 2 ^ m → x < length b
-  entry_within b e x h = omega (arith, ap length e, (described d).formed.box.size, same_points)
+  entry_within b e x h = omega (arith, ap length e, (described d).formed.box.size, same_points f starts m s k d)
 
   pub every_entry : (n : ℕ) → n ≡ 2 ^ m → all n (λ x. eqb (chained (meaning f).stages x) (entry (meaning f).box x)) ≡ chain_is_box (meaning f)
   unfolding chain_is_box
-  every_entry n e = ap (λ (w : ℕ). all w (λ x. eqb (chained (meaning f).stages x) (entry (meaning f).box x))) (e ∙ same_points)
+  every_entry n e = ap (λ (w : ℕ). all w (λ x. eqb (chained (meaning f).stages x) (entry (meaning f).box x))) (e ∙ same_points f starts m s k d)
