@@ -54,7 +54,7 @@ extern "C" {
 #define JESTRUNAS_BOX_REPEATS 8          /* S repeats an entry; produce: the table does */
 #define JESTRUNAS_WORKSPACE_TOO_SMALL 9  /* the workspace has fewer than 2^(m * s) / 8 bytes */
 #define JESTRUNAS_CHAIN_IS_NOT_BOX 10    /* the chain of tables is not S */
-#define JESTRUNAS_STAGE_REPEATS 11       /* a G repeats an entry */
+/* 11 is retired: no operation answers it, and it is not given again. */
 #define JESTRUNAS_NOT_CORRECT 12         /* some sharing's output shares do not sum to G */
 #define JESTRUNAS_NOT_NON_COMPLETE 13    /* a component depends on every share */
 #define JESTRUNAS_NOT_UNIFORM 14         /* the sharings of some G(x) do not each come from one sharing of x */
@@ -70,7 +70,7 @@ extern "C" {
  * The answer of reading, and the three numbers of a verdict.
  * Reason 0: place is 0 for reading and k, the number of stages, for the verdict; component 0.
  * Reasons 1 to 7: place is the first byte of the record at fault (for 7, the first byte after the end), component 0.
- * Reasons 8, 9, 10: 0, 0. Reasons 11 to 14: place is the stage; component is 0 but for 13, where it is the lowest that
+ * Reasons 8, 9, 10: 0, 0. Reasons 12, 13, 14: place is the stage; component is 0 but for 13, where it is the lowest that
  * depends on every share.
  */
 typedef struct {

@@ -16,7 +16,7 @@ use Rattle.threshold.specs.Sharing.{share, sum, setting, put_share}
 use Rattle.threshold.specs.Stages.{output, correct, depends_on, depends_on_all, non_complete, sharings_to, uniform}
 use Rattle.threshold.specs.Chain.{chained, handed, reads_alike, read_meetings}
 use Rattle.threshold.specs.Running.{packed, unpacked, share_fits, shares_fit, running_on, running}
-use Rattle.checker.specs.Verdict.{chain_is_box, first_repeating, stages_faults, judged, judged_reading, verdict}
+use Rattle.checker.specs.Verdict.{chain_is_box, stages_faults, judged, judged_reading, verdict}
 use Rattle.checker.specs.Trials.{both_passes, trials_of, trials, judging, forecast}
 use Rattle.checker.specs.Bench.{rows, forecasts, meeting_rows, runs}
 
@@ -32,7 +32,7 @@ sharing = 0
 
 -- of the verdict with its trials, and of a run
 unfoldable deciding : ℕ
-unfolding computing writing sharing repeats met_before chained chain_is_box first_repeating first_fault stages_faults judged judged_reading verdict tried both_passes trials_of trials judging
+unfolding computing writing sharing repeats met_before chained chain_is_box first_fault stages_faults judged judged_reading verdict tried both_passes trials_of trials judging
 deciding = 0
 
 unfoldable sending : ℕ

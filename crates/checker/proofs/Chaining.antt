@@ -1,23 +1,42 @@
--- The laws of the chain of tables over plain values: one value sent through table after table, and S at each.
+-- The chain of tables: its test means its fact, and where it is a permutation, each table is one. And its laws over plain values: one value sent through table
+-- after table, and S at each.
 -- Assumes nothing.
 use mathlib.Core.Path.{◌≡◌, sym, ap, ◌∙◌}
+use mathlib.Core.Logic.{◌↔◌}
 use mathlib.Core.List.{List}
+use mathlib.Core.Bool.{true}
 use Prim.Native.Nat.{ℕ, ◌+◌, ◌^◌, ◌<◌, ◌≤◌}
 use native.Mathlib.Omega.{arith}
 use lib.ListN.{length, get_or, take}
 use lib.Dec.{eqb}
+use borrow.Author.Tests.{eqb-true, eq-eqb}
 use Rattle.finite.specs.Tests.{all}
-use Rattle.anf.specs.Tables.{entry}
-use Rattle.design.specs.Design.{stage_of}
+use Rattle.finite.proofs.Testing.{all_at, all_intro}
+use Rattle.anf.specs.Tables.{entry, Permutation}
+use Rattle.design.specs.Design.{Design, WellFormed, stage_of}
 use Rattle.design.specs.Reading.{meaning}
 use Rattle.design.specs.Inside.Described.{Describes}
 use Rattle.design.specs.Heads.{laid_by}
 use Rattle.design.proofs.Answered.{described}
 use Rattle.design.proofs.StageLists.{stages_length}
 use Rattle.threshold.specs.Chain.{chained}
-use Rattle.threshold.proofs.Tables.{chained_lt, chained_next, chained_all}
+use Rattle.threshold.proofs.Tables.{chained_lt, chained_next, chained_all, chain_tables}
 use Rattle.checker.specs.Verdict.{chain_is_box}
+use Rattle.checker.specs.Accepted.{ChainIsBox, TablePermutes}
 use Rattle.checker.proofs.StageFacts.{same_points, table_points}
+
+pub chain↔ : (d : Design) → chain_is_box d ≡ true ↔ ChainIsBox d
+unfolding chain_is_box
+chain↔ d = (
+  λ e x l. eqb-true _ _ (all_at (2 ^ d.m) _ e x l),
+  λ h. all_intro (2 ^ d.m) _ (λ x l. eq-eqb _ _ (h x l)),
+)
+
+-- S is a permutation, and all widths are equal, as `WellFormed` says
+pub chain_permutes : (d : Design) → WellFormed d → Permutation d.m d.box → ChainIsBox d → (t : ℕ) → t < d.k → TablePermutes d t
+chain_permutes d wf box chain t l =
+    chain_tables (2 ^ d.m) d.stages (λ i h. (wf.stage i (omega (arith, wf.count))).table.below)
+    (λ x y lx ly e. box x y lx ly (sym (chain x lx) ∙ e ∙ chain y ly)) t (omega (arith, wf.count))
 
 module _ (f starts : List ℕ) (m s k : ℕ) (d : Describes f (laid_by m s k starts)) where
   -- ---- `chained`: y is what the first t tables make of x, b the table of stage t

@@ -1,7 +1,7 @@
 -- The verdict explained: the fault that it names is there and none before it in the published order is; and a file is accepted exactly when it has none.
 -- Each test is one case, and means its fact by the law of the test. Assumes nothing.
 use mathlib.Core.Path.{◌≡◌, refl, sym, ap, ◌∙◌, subst}
-use mathlib.Core.Logic.{◌↔◌}
+use mathlib.Core.Logic.{◌↔◌, ◌≢◌}
 use mathlib.Core.List.{List, ◌∷◌}
 use mathlib.Core.Bool.{Bool, true, false, not}
 use Prim.Native.Nat.{ℕ, zero, suc, ◌+◌, ◌^◌, ◌<◌}
@@ -9,11 +9,11 @@ use native.Mathlib.Nat.{not-suc-le-zero}
 use native.Mathlib.Omega.{arith}
 use borrow.Author.Count.{below_more}
 use lib.Dec.{ltb}
-use borrow.Author.Tests.{eqb-true, eq-eqb, ltb-true, ltb-false, not-true, not-false}
-use Rattle.finite.specs.Tests.{any, first}
+use borrow.Author.Tests.{ltb-true, ltb-false, not-true, not-false}
+use Rattle.finite.specs.Tests.{first}
 use Rattle.finite.specs.Maps.{repeats}
 use Rattle.finite.specs.Faults.{first_fault}
-use Rattle.finite.proofs.Testing.{all_at, all_intro, any_none, first_is, clash}
+use Rattle.finite.proofs.Testing.{any_none, first_is, clash}
 use Rattle.finite.proofs.Faults.{fault_either, fault_none}
 use Rattle.finite.proofs.Maps.{repeats_clash, repeats→injective}
 use Rattle.anf.specs.Tables.{Permutation, entry}
@@ -22,29 +22,19 @@ use Rattle.design.specs.Reading.{Reading, refused, means, reading}
 use Rattle.design.proofs.Theorems.{read_formed}
 use Rattle.design.proofs.Reasons.{refused_for, reason_range}
 use Rattle.threshold.specs.Stages.{correct, depends_on_all, non_complete, uniform}
-use Rattle.threshold.proofs.Tables.{chain_tables}
 use Rattle.threshold.proofs.Tests.{correct↔, ignores_some↔, non_complete↔, not_non_complete, uniform↔}
-use Rattle.checker.specs.Verdict.{answer, workspace_for, chain_is_box, table_repeats, first_repeating, judged, judged_reading, verdict}
-use Rattle.checker.specs.Accepted.{ChainIsBox, TablePermutes, CorrectAt, IgnoresSomeAt, UniformAt, SoundAt, Accepted, Judgeable, SoundBefore, Explained}
-use Rattle.checker.specs.Accepted.{refusal, fault_8, fault_9, fault_10, fault_11, fault_12, fault_13, fault_14, accepted}
+use Rattle.checker.specs.Verdict.{answer, workspace_for, chain_is_box, judged, judged_reading, verdict}
+use Rattle.checker.specs.Accepted.{ChainIsBox, CorrectAt, IgnoresSomeAt, UniformAt, SoundAt, Accepted, Judgeable, SoundBefore, Explained}
+use Rattle.checker.specs.Accepted.{refusal, fault_8, fault_9, fault_10, fault_12, fault_13, fault_14, accepted}
 use Rattle.checker.specs.declared.Verdict.{Verdict}
 use Rattle.checker.proofs.Steps.{stage_then, stages_from, stages_next, stages_end}
-use Rattle.checker.proofs.Repeating.{first_repeats, tables_permute}
-
--- ---- the tests of a design and their facts
-
-pub chain↔ : (d : Design) → chain_is_box d ≡ true ↔ ChainIsBox d
-unfolding chain_is_box
-chain↔ d = (
-  λ e x l. eqb-true _ _ (all_at (2 ^ d.m) _ e x l),
-  λ h. all_intro (2 ^ d.m) _ (λ x l. eq-eqb _ _ (h x l)),
-)
+use Rattle.checker.proofs.Chaining.{chain↔}
 
 -- ---- explained
 
 module _ (f : List ℕ) (n : ℕ) (d : Design) (wf : WellFormed d) where
   sound_more : (t : ℕ) → SoundBefore f n d t → SoundAt d t → SoundBefore f n d (t + 1)
-  sound_more t p s = record { judgeable = p.judgeable; chain = p.chain; tables = p.tables; before = below_more _ t p.before s }
+  sound_more t p s = record { judgeable = p.judgeable; chain = p.chain; before = below_more _ t p.before s }
 
   -- a test and those after it
   either : (b : Bool) (a : Verdict) (fs : List (Bool × Verdict)) (good : Verdict) → (b ≡ true → Explained f n a) → (b ≡ false → Explained f n (first_fault fs good))
@@ -95,12 +85,8 @@ module _ (f : List ℕ) (n : ℕ) (d : Design) (wf : WellFormed d) where
       (λ l. let ready : Judgeable f n d = record { reads = reads; box = box; room = ltb-false _ _ l } in
       either (not (chain_is_box d)) _ _ _
       (λ c. fault_10 d ready (λ h. clash ((chain↔ d).1 h) (not-true _ c)))
-      (λ c. let chain = (chain↔ d).0 (not-false _ c) in
-      either (any d.k (table_repeats d)) _ _ _
-      (λ r. let q = first_repeats d r in
-      fault_11 d (first_repeating d) ready chain q.0 (tables_permute d (first_repeating d) q.2) (repeats_clash (2 ^ d.m) _ q.1))
-      (λ r. stages_explained d.k 0 (omega arith)
-      (record { judgeable = ready; chain = chain; tables = tables_permute d d.k r; before = λ i k. absurd (not-suc-le-zero k) })))))
+      (λ c. stages_explained d.k 0 (omega arith)
+      (record { judgeable = ready; chain = (chain↔ d).0 (not-false _ c); before = λ i k. absurd (not-suc-le-zero k) }))))
 
 -- of every file and every workspace
 pub explained : (f : List ℕ) (n : ℕ) → Explained f n (verdict f n)
@@ -119,7 +105,6 @@ accepts f n v (refusal r p e w) z = absurd (omega (arith, reason_range f r p e))
 accepts f n v (fault_8 d e h) z = absurd (omega arith)
 accepts f n v (fault_9 d e b h) z = absurd (omega arith)
 accepts f n v (fault_10 d e h) z = absurd (omega arith)
-accepts f n v (fault_11 d t e c l b h) z = absurd (omega arith)
 accepts f n v (fault_12 d t p l h) z = absurd (omega arith)
 accepts f n v (fault_13 d t j p l c k b h) z = absurd (omega arith)
 accepts f n v (fault_14 d t p l c o h) z = absurd (omega arith)
@@ -130,21 +115,11 @@ module _ (f : List ℕ) (n : ℕ) (d : Design) (a : Accepted f n d) where
   same : (e : Design) → reading f ≡ means e → d ≡ e
   same e r = let q : means d ≡ means e = sym a.reads ∙ r in cc
 
-  -- the tables of the chain are permutations, as S is one
-  tables : (t : ℕ) → t < d.k → TablePermutes d t
-  tables t l =
-      let wf = read_formed f d a.reads in
-      chain_tables (2 ^ d.m) d.stages (λ i k. (wf.stage i (omega (arith, wf.count))).table.below)
-      (λ x y lx ly e. a.box x y lx ly (sym (a.chain x lx) ∙ e ∙ a.chain y ly)) t (omega (arith, wf.count))
-
   accepted_answer : (v : Verdict) → Explained f n v → v ≡ answer 0 d.k 0
   accepted_answer v (refusal r p e w) = let q : means d ≡ refused r p = sym a.reads ∙ e in let z : ◌≡◌ {A = ℕ} 0 1 = cc in absurd (omega arith)
   accepted_answer v (fault_8 e r h) = absurd (subst (λ (x : Design). ¬ Permutation x.m x.box) (sym (same e r)) h a.box)
   accepted_answer v (fault_9 e r b h) = absurd (omega (arith, a.room, subst (λ (x : Design). n < workspace_for x.m x.s) (sym (same e r)) h))
   accepted_answer v (fault_10 e r h) = absurd (subst (λ (x : Design). ¬ ChainIsBox x) (sym (same e r.reads)) h a.chain)
-  accepted_answer v (fault_11 e t r c l b h) =
-      let q = sym (same e r.reads) in
-      absurd (subst (λ (x : Design). ¬ TablePermutes x t) q h (tables t (subst (λ (x : Design). t < x.k) q l)))
   accepted_answer v (fault_12 e t p l h) =
       let q = sym (same e p.judgeable.reads) in
       absurd (subst (λ (x : Design). ¬ CorrectAt x t) q h (a.stages t (subst (λ (x : Design). t < x.k) q l)).correct)
@@ -166,6 +141,20 @@ accepted_exactly f n k = (
       (r.0, ap (λ (v : Verdict). v.place) (sym r.1 ∙ e), r.2),
   λ r. accepted_answer f n r.0 r.2 (verdict f n) (explained f n) ∙ ap (λ (x : ℕ). answer 0 x 0) r.1,
 )
+
+-- 11 is retired: no verdict answers it
+pub eleven_retired : (f : List ℕ) (n : ℕ) → (verdict f n).reason ≢ 11
+eleven_retired f n = never (verdict f n) (explained f n)
+  where
+    never : (v : Verdict) → Explained f n v → v.reason ≢ 11
+    never v (refusal r p e w) z = omega (arith, reason_range f r p e)
+    never v (fault_8 d e h) z = omega arith
+    never v (fault_9 d e b h) z = omega arith
+    never v (fault_10 d e h) z = omega arith
+    never v (fault_12 d t p l h) z = omega arith
+    never v (fault_13 d t j p l c k b h) z = omega arith
+    never v (fault_14 d t p l c o h) z = omega arith
+    never v (accepted d p) z = omega arith
 
 -- reason 0 alone
 pub reason_zero : (f : List ℕ) (n : ℕ) → (verdict f n).reason ≡ 0 → (d : Design) × Accepted f n d

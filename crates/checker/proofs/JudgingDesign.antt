@@ -1,38 +1,38 @@
 -- The verdict at each way out of `judge_file`, `judge_design` and `judge_chain`, and its trials, over plain values: m, s and k are the numbers of the
 -- head of the file f, ws the workspace that came in, v what is answered or the refusal, z the trials. A premise is a test as the code has it, or what a call's contract says of its result.
 -- Assumes nothing.
-use mathlib.Core.Path.{◌≡◌, refl, sym, ap, ap₂, ◌∙◌, subst}
+use mathlib.Core.Path.{◌≡◌, refl, sym, ap, ap₂, ◌∙◌}
 use mathlib.Core.List.{List}
-use Rattle.std.specs.Prelude.{Option, Some, None}
 use Rattle.reasons.specs.Numbers.{number}
 use Rattle.reasons.specs.declared.Reason.{Reason}
 use Rattle.reasons.proofs.Numbers.{number_some}
-use Rattle.reasons.specs.declared.Reason.TheVariants.{BoxRepeats, WorkspaceTooSmall, ChainIsNotBox, StageRepeats}
+use Rattle.reasons.specs.declared.Reason.TheVariants.{BoxRepeats, WorkspaceTooSmall, ChainIsNotBox}
 use Rattle.design.specs.Design.{Design}
 use mathlib.Core.Bool.{Bool, true, false, not}
-use Prim.Native.Nat.{ℕ, ◌+◌, ◌^◌, ◌<◌, ◌≤◌}
+use Prim.Native.Nat.{ℕ, ◌^◌, ◌<◌, ◌≤◌}
 use native.Mathlib.Omega.{arith}
 use lib.ListN.{length}
 use lib.Dec.{ltb}
-use borrow.Author.Tests.{lt-ltb, le-ltb}
+use borrow.Author.Tests.{lt-ltb, le-ltb, not-false}
 use Rattle.finite.specs.Maps.{repeats}
 use Rattle.finite.proofs.Faults.{fault_here, fault_past}
-use Rattle.anf.specs.Tables.{entry}
+use Rattle.finite.proofs.Maps.{repeats→injective}
+use Rattle.anf.specs.Tables.{entry, Permutation}
 use Rattle.design.specs.Reading.{refused, reading, meaning}
 use Rattle.design.specs.Layout.{refused_layout, layout_of}
 use Rattle.design.specs.Inside.Described.{Describes}
 use Rattle.design.specs.Heads.{laid_by}
 use Rattle.design.proofs.Answered.{described, answers_described, refuses}
 use Rattle.design.proofs.Reasons.{reason_range}
-use Rattle.checker.specs.Verdict.{answer, workspace_for, chain_is_box, table_repeats, first_repeating, judged, judged_reading, verdict, zeroed, workspace_left, workspace_after}
+use Rattle.checker.specs.Verdict.{answer, workspace_for, chain_is_box, judged, judged_reading, verdict, zeroed, workspace_left, workspace_after}
 use Rattle.checker.specs.Trials.{trials_of, trials}
 use Rattle.checker.specs.Outcome.{refusal, refused_with}
-use Rattle.checker.specs.Inside.Parts.{NoneRepeats, stages_judged, chain_judged, found, FoundBelow}
+use Rattle.checker.specs.Inside.Parts.{TablesPermute, stages_judged, chain_judged}
 use Rattle.checker.specs.declared.Verdict.{Verdict}
 use Rattle.checker.specs.declared.Refusal.{Refusal}
-use Rattle.checker.proofs.Passes.{found_is, found_below, none_found, untried}
+use Rattle.checker.proofs.Passes.{untried}
 use Rattle.checker.proofs.Workspace.{untouched, cleared, late_reasons}
-use Rattle.checker.proofs.Repeating.{box_repeats}
+use Rattle.checker.proofs.Chaining.{chain↔, chain_permutes}
 
 -- a verdict with 1 to 11 takes no trials, and none were counted before
 untried_yet : (d : Design) (a b : Verdict) → a ≡ b → 1 ≤ a.reason → a.reason ≤ 11 → (z : ℕ) → z ≡ 0 → z ≡ trials_of d b
@@ -86,7 +86,9 @@ module _ (f starts : List ℕ) (m s k : ℕ) (d : Describes f (laid_by m s k sta
 
   module _ (b : List ℕ) (eb : b ≡ (meaning f).box) (r : Bool) (er : r ≡ repeats (length b) (entry b)) (ws : List ℕ) where
     box : repeats (2 ^ (meaning f).m) (entry (meaning f).box) ≡ r
-    box = sym (er ∙ box_repeats f starts m s k d b eb)
+    box =
+        sym
+        (er ∙ ap (λ (x : List ℕ). repeats (length x) (entry x)) eb ∙ ap (λ (n : ℕ). repeats n (entry (meaning f).box)) (described d).formed.box.size)
 
     module _ (q : r ≡ true) where
       eight : answer 8 0 0 ≡ judged (meaning f) (length ws)
@@ -101,6 +103,9 @@ module _ (f starts : List ℕ) (m s k : ℕ) (d : Describes f (laid_by m s k sta
 
       pub box_repeated_after : ws ≡ workspace_left (meaning f) (judged (meaning f) (length ws)).reason ws
       box_repeated_after = rw (← eight) (sym (untouched (meaning f) 8 ws (omega arith) (omega arith)))
+
+    pub box_permutes : r ≡ false → Permutation (meaning f).m (meaning f).box
+    box_permutes q = repeats→injective (2 ^ (meaning f).m) (entry (meaning f).box) (box ∙ q)
 
     module _ (q : r ≡ false) (n : ℕ) (en : n ≡ workspace_for m s) where
       module _ (h : length ws < n) where
@@ -145,16 +150,6 @@ module _ (f starts : List ℕ) (m s k : ℕ) (d : Describes f (laid_by m s k sta
   tested : not (chain_is_box (meaning f)) ≡ not c
   tested = ap not (sym ec)
 
-  same_stages : found k (table_repeats (meaning f)) ≡ found (meaning f).k (table_repeats (meaning f))
-  same_stages = ap (λ (n : ℕ). found n (table_repeats (meaning f))) (described d).k
-
-  -- a stage's number, counted from 1, in a word
-  pub number_fits : (o : Option ℕ) → o ≡ found k (table_repeats (meaning f)) → (t : ℕ) → o ≡ Some t → t + 1 < 2 ^ 64
-  unfolding FoundBelow
-  number_fits o eo t et =
-      let b : FoundBelow k (Some t) = subst (FoundBelow k) (sym eo ∙ et) (found_below k _) in
-      omega (arith, (described d).bounds.k_high)
-
   module _ (n : not c ≡ true) where
     ten : answer 10 0 0 ≡ chain_judged (meaning f)
     unfolding chain_judged
@@ -167,29 +162,16 @@ module _ (f starts : List ℕ) (m s k : ℕ) (d : Describes f (laid_by m s k sta
     chain_wrong_trials z e = untried_yet (meaning f) _ _ ten (omega arith) (omega arith) z e
 
   module _ (y : not c ≡ false) where
-    module _ (t : ℕ) (o : Option ℕ) (eo : o ≡ found k (table_repeats (meaning f))) (et : o ≡ Some t) where
-      eleven : answer 11 (t + 1) 0 ≡ chain_judged (meaning f)
-      unfolding chain_judged first_repeating
-      eleven =
-          let o = found_is (meaning f).k (table_repeats (meaning f)) t (sym et ∙ eo ∙ same_stages) in
-          ap (λ (x : ℕ). answer 11 (x + 1) 0) (sym o.1) ∙ sym (fault_past _ _ _ _ (tested ∙ y) ∙ fault_here _ _ _ _ o.0)
+    -- the chain of tables is S, so each table is a permutation where S is one
+    pub tables_permute : Permutation (meaning f).m (meaning f).box → TablesPermute (meaning f)
+    tables_permute p t l = chain_permutes (meaning f) (described d).formed p ((chain↔ (meaning f)).0 (not-false _ (tested ∙ y))) t l
 
-      pub table_repeated : (v : Refusal) → v ≡ refusal StageRepeats (t + 1) 0 → refused_with v ≡ chain_judged (meaning f)
-      table_repeated v is = ap refused_with is ∙ eleven
+    onward_stages : stages_judged (meaning f) ≡ chain_judged (meaning f)
+    unfolding chain_judged stages_judged
+    onward_stages = sym (fault_past _ _ _ _ (tested ∙ y))
 
-      pub table_repeated_trials : (z : ℕ) → z ≡ 0 → z ≡ trials_of (meaning f) (chain_judged (meaning f))
-      table_repeated_trials z e = untried_yet (meaning f) _ _ eleven (omega arith) (omega arith) z e
+    pub stages_answer : (v : Verdict) → v ≡ stages_judged (meaning f) → v ≡ chain_judged (meaning f)
+    stages_answer v e = e ∙ onward_stages
 
-    module _ (o : Option ℕ) (eo : o ≡ found k (table_repeats (meaning f))) (et : o ≡ None) where
-      pub none_repeats : NoneRepeats (meaning f)
-      none_repeats = none_found (meaning f).k (table_repeats (meaning f)) (sym et ∙ eo ∙ same_stages)
-
-      onward_stages : stages_judged (meaning f) ≡ chain_judged (meaning f)
-      unfolding chain_judged stages_judged
-      onward_stages = sym (fault_past _ _ _ _ (tested ∙ y) ∙ fault_past _ _ _ _ none_repeats)
-
-      pub stages_answer : (v : Verdict) → v ≡ stages_judged (meaning f) → v ≡ chain_judged (meaning f)
-      stages_answer v e = e ∙ onward_stages
-
-      pub stages_trials : (z : ℕ) → z ≡ trials_of (meaning f) (stages_judged (meaning f)) → z ≡ trials_of (meaning f) (chain_judged (meaning f))
-      stages_trials z e = e ∙ ap (trials_of (meaning f)) onward_stages
+    pub stages_trials : (z : ℕ) → z ≡ trials_of (meaning f) (stages_judged (meaning f)) → z ≡ trials_of (meaning f) (chain_judged (meaning f))
+    stages_trials z e = e ∙ ap (trials_of (meaning f)) onward_stages

@@ -14,7 +14,6 @@ use native.Mathlib.Omega.{arith}
 use borrow.Author.Tests.{not-false}
 use Rattle.finite.specs.Tests.{any}
 use Rattle.finite.proofs.Faults.{fault_here, fault_past, fault_none}
-use Rattle.anf.specs.Tables.{Permutation}
 use Rattle.design.specs.Limits.{greatest_share_bits, broken}
 use Rattle.design.specs.Design.{Stage, stage_of}
 use Rattle.design.specs.Reading.{meaning}
@@ -29,14 +28,13 @@ use Rattle.threshold.proofs.Stages.{stage_uniform_repeats}
 use Rattle.checker.specs.Verdict.{answer}
 use Rattle.checker.specs.Outcome.{refusal, refused_with}
 use Rattle.checker.specs.Trials.{correctness_at, uniformity_at, both_passes, trials_of}
-use Rattle.checker.specs.Inside.Parts.{NoneRepeats, stage_judged, stages_judged, found, first_wrong, first_met, FoundBelow, tries_until, stage_tries}
+use Rattle.checker.specs.Inside.Parts.{TablesPermute, stage_judged, stages_judged, found, first_wrong, first_met, FoundBelow, tries_until, stage_tries}
 use Rattle.checker.specs.declared.Verdict.{Verdict}
 use Rattle.checker.specs.declared.Refusal.{Refusal}
 use Rattle.checker.proofs.StageFacts.{few_sharings}
 use Rattle.checker.proofs.Passes.{found_is, found_below, none_found, tries_found, correctness_stopped, uniformity_stopped, correctness_most, uniformity_most}
 use Rattle.checker.proofs.Passes.{few_trials, both_none, both_more, both_most, at_fault}
 use Rattle.checker.proofs.Steps.{stage_then, stages_from, stages_next, stages_end, stages_all, stage_fault, stage_fine}
-use Rattle.checker.proofs.Repeating.{tables_permute}
 
 -- stage t of the design that a file means
 abbrev stage_in : List ℕ → ℕ → Stage
@@ -130,7 +128,7 @@ module _ (f starts : List ℕ) (m s k : ℕ) (d : Describes f (laid_by m s k sta
             tries_reads z n ez en = let w = told _ reads in omega (arith, alone n en)
 
           -- u is the first sharing whose output was met before, k the tries of that pass
-          module _ (w : o ≡ None) (tables : NoneRepeats (meaning f))
+          module _ (w : o ≡ None) (tables : TablesPermute (meaning f))
               (u : Option ℕ) (x : u ≡ first_met m s (stage_in f t)) where
             pub even_below : FoundBelow (2 ^ (m * s)) u
             even_below = subst (FoundBelow (2 ^ (m * s))) (sym x) (found_below (2 ^ (m * s)) _)
@@ -138,15 +136,12 @@ module _ (f starts : List ℕ) (m s k : ℕ) (d : Describes f (laid_by m s k sta
             none : any (meaning f).s (depends_fully f t) ≡ false
             none = none_found (meaning f).s (depends_fully f t) (sym w ∙ eo ∙ same_found)
 
-            permutes : Permutation (meaning f).m (stage_in f t).table
-            permutes = tables_permute (meaning f) (meaning f).k tables t inside
-
             even_pass : u ≡ first_met (meaning f).m (meaning f).s (stage_in f t)
             even_pass = x ∙ ap₂ (λ (m s : ℕ). first_met m s (stage_in f t)) (described d).m (described d).s
 
             marks : not (uniform (meaning f).m (meaning f).s (stage_in f t)) ≡ is_some u
             marks =
-                ap not (stage_uniform_repeats (meaning f).m (meaning f).s (stage_in f t) ((described d).formed.stage t inside) permutes right)
+                ap not (stage_uniform_repeats (meaning f).m (meaning f).s (stage_in f t) ((described d).formed.stage t inside) (tables t inside) right)
                 ∙ not-not _ ∙ sym (ap is_some even_pass ∙ uniformity_stopped (meaning f).m (meaning f).s (stage_in f t))
 
             module _ (z n : ℕ) (ez : z ≡ both_passes (meaning f) t) (en : n ≡ tries_until (2 ^ (m * s)) r)

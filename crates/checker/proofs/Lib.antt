@@ -4,7 +4,6 @@ pub mod StageFacts
 pub mod Passes
 pub mod Ranges
 pub mod Marking
-pub mod Repeating
 pub mod Chaining
 pub mod Agreeing
 pub mod EveryShare

@@ -1,10 +1,10 @@
--- What iterators find in the numbers below n, as tests over them; and what they give of the sharings with their outputs. Assumes nothing.
+-- What an iterator asks of all numbers below n, as a test over them; and what iterators give of the sharings with their outputs. Assumes nothing.
 use mathlib.Core.Path.{◌≡◌, refl, sym, ap, ap₂, ◌∙◌}
-use mathlib.Core.Bool.{Bool, true, false, ◌&&◌}
+use mathlib.Core.Bool.{Bool, ◌&&◌}
 use mathlib.Core.List.{List, [], ◌∷◌, ◌++◌}
-use Prim.Native.Nat.{ℕ, zero, suc, ◌+◌, ◌^◌, ◌≤◌, ◌<◌, min}
+use Prim.Native.Nat.{ℕ, zero, suc, ◌+◌, ◌^◌, ◌<◌, min}
 use native.Mathlib.Omega.{arith}
-use Rattle.std.specs.Prelude.{Option, Some, None, MatchOption}
+use Rattle.std.specs.Prelude.{Option, Some, None}
 use lib.ListN.{length, length-append}
 use Rattle.std.specs.List.{list_all, range_with_len, zip}
 use Rattle.std.specs.Iterator.{Yields, YieldsFirst}
@@ -18,19 +18,10 @@ use Rattle.std.proofs.lemmas.List.FromFn.{length-range_with_len, get_or-range_wi
 use Rattle.std.proofs.lemmas.Slice.Zip.{length-zip, get_or-zip}
 use Rattle.finite.specs.Tests.{all, tabulate}
 use Rattle.finite.proofs.Lists.{all_first}
-use Rattle.finite.proofs.Testing.{none_any, all_congr, tabulate_length, tabulate_at}
+use Rattle.finite.proofs.Testing.{all_congr, tabulate_length, tabulate_at}
 use Rattle.threshold.specs.Stages.{output}
 use Rattle.threshold.specs.Inside.Outputs.{left}
 use Rattle.threshold.specs.declared.blocks.Outputs.{Outputs}
-use Rattle.checker.specs.Inside.Parts.{found}
-use Rattle.checker.proofs.Passes.{found_at, found_none}
-
--- `find`
-pub found_first : (n : ℕ) (p : ℕ → Bool) (r : Option ℕ)
-    → MatchOption r ((k : ℕ) → 0 ≤ k → k < n → p k ≡ false) (λ i. (0 ≤ i) × (i < n) × (p i ≡ true) × ((k : ℕ) → 0 ≤ k → k < i → p k ≡ false))
-    → r ≡ found n p
-found_first n p None h = found_none n p (none_any n p (λ k l. h k (omega arith) l))
-found_first n p (Some i) h = found_at n p i h.1 (none_any i p (λ k l. h.3 k (omega arith) l)) h.2
 
 -- `all`
 all_from : (n a : ℕ) (p : ℕ → Bool) → list_all p (range_with_len a n) ≡ all n (λ i. p (a + i))

@@ -12,7 +12,7 @@ use lib.Dec.{eqb}
 use borrow.Author.Tests.{eq-eqb, ne_eqb, not-true}
 use Rattle.finite.specs.Tests.{pick}
 use Rattle.finite.proofs.Testing.{pick_true, pick_false, pick_number}
-use Rattle.design.specs.Design.{Design, WellFormed, stage_of}
+use Rattle.design.specs.Design.{Design, stage_of}
 use Rattle.design.specs.Reading.{Reading, refused, means, head_of, head_fault, meaning, reading}
 use Rattle.design.specs.Limits.{Head}
 use Rattle.design.proofs.HeadAlone.{head_seven, fault_seven, head_range, refused_first, reads_head}
@@ -24,11 +24,12 @@ use Rattle.threshold.proofs.Tests.{correct↔, uniform↔}
 use Rattle.threshold.proofs.Stages.{stage_uniform_repeats}
 use Rattle.checker.specs.Verdict.{answer, workspace_for, judged_reading, verdict}
 use Rattle.checker.specs.Trials.{correctness_at, uniformity_at, both_passes, trials_of, trials_by_outcome, trials, most_trials, forecast_for, no_forecast, forecast}
-use Rattle.checker.specs.Accepted.{TablePermutes, CorrectAt, SoundAt, SoundBefore, Explained}
-use Rattle.checker.specs.Accepted.{refusal, fault_8, fault_9, fault_10, fault_11, fault_12, fault_13, fault_14, accepted}
+use Rattle.checker.specs.Accepted.{CorrectAt, SoundAt, SoundBefore, Explained}
+use Rattle.checker.specs.Accepted.{refusal, fault_8, fault_9, fault_10, fault_12, fault_13, fault_14, accepted}
 use Rattle.checker.specs.declared.Verdict.{Verdict}
 use Rattle.checker.specs.declared.Forecast.{Forecast}
 use Rattle.checker.proofs.Passes.{untried, twice_more, both_none, both_more, correctness_all, uniformity_all, correctness_most, uniformity_most}
+use Rattle.checker.proofs.Chaining.{chain_permutes}
 use Rattle.checker.proofs.Exactly.{explained, accepted_exactly, reason_zero}
 
 -- ---- the forecast
@@ -71,19 +72,21 @@ module _ (f : List ℕ) where
 correct_whole : (d : Design) (t : ℕ) → CorrectAt d t → correctness_at d t ≡ 2 ^ (d.m * d.s)
 correct_whole d t h = correctness_all d.m d.s (stage_of d t) ((correct↔ d.m d.s (stage_of d t)).1 h)
 
-module _ (d : Design) (wf : WellFormed d) (tables : (i : ℕ) → i < d.k → TablePermutes d i) where
-  uniform_whole : (t : ℕ) → t < d.k → SoundAt d t → uniformity_at d t ≡ 2 ^ (d.m * d.s)
-  uniform_whole t l h =
-      uniformity_all d.m d.s (stage_of d t)
-      (not-true _ (sym (stage_uniform_repeats d.m d.s (stage_of d t) (wf.stage t l) (tables t l) h.correct) ∙ (uniform↔ d.m d.s (stage_of d t)).1 h.uniform))
+module _ (f : List ℕ) (n : ℕ) (d : Design) (t : ℕ) (p : SoundBefore f n d t) where
+  uniform_whole : (i : ℕ) → i < d.k → SoundAt d i → uniformity_at d i ≡ 2 ^ (d.m * d.s)
+  uniform_whole i l h =
+      let wf = read_formed f d p.judgeable.reads in
+      let table = chain_permutes d wf p.judgeable.box p.chain i l in
+      uniformity_all d.m d.s (stage_of d i)
+      (not-true _ (sym (stage_uniform_repeats d.m d.s (stage_of d i) (wf.stage i l) table h.correct) ∙ (uniform↔ d.m d.s (stage_of d i)).1 h.uniform))
 
-  both_whole : (n : ℕ) → n ≤ d.k → ((i : ℕ) → i < n → SoundAt d i) → both_passes d n ≡ 2 * n * 2 ^ (d.m * d.s)
+  both_whole : (i : ℕ) → i ≤ d.k → i ≤ t → both_passes d i ≡ 2 * i * 2 ^ (d.m * d.s)
   both_whole zero l h = omega (arith, both_none d)
-  both_whole (suc n) l h =
-      let s = h n (omega arith) in
-      let q : both_passes d (suc n) ≡ correctness_at d n + uniformity_at d n + both_passes d n = rw add-one at (both_more d n) in
-      let e = twice_more n (2 ^ (d.m * d.s)) in
-      omega (arith, correct_whole d n s.correct, uniform_whole n (omega arith) s, both_whole n (omega arith) (λ i k. h i (omega arith)))
+  both_whole (suc i) l h =
+      let s = p.before i (omega arith) in
+      let q : both_passes d (suc i) ≡ correctness_at d i + uniformity_at d i + both_passes d i = rw add-one at (both_more d i) in
+      let e = twice_more i (2 ^ (d.m * d.s)) in
+      omega (arith, correct_whole d i s.correct, uniform_whole i (omega arith) s, both_whole i (omega arith) (omega arith))
 
 -- ---- the trials by outcome, and that none takes more than is forecast
 
@@ -101,12 +104,12 @@ module _ (d : Design) where
   none_taken v l h = record { listed = untried d v l h ∙ sym (none_listed v l h); most = omega (arith, untried d v l h) }
 
 -- stage t has the fault: x is t, as a place less 1
-module _ (d : Design) (wf : WellFormed d) (tables : (i : ℕ) → i < d.k → TablePermutes d i) (t : ℕ) (l : t < d.k) (sound : (i : ℕ) → i < t → SoundAt d i) where
+module _ (f : List ℕ) (n : ℕ) (d : Design) (t : ℕ) (p : SoundBefore f n d t) (l : t < d.k) where
   abbrev sharings : ℕ
   sharings = 2 ^ (d.m * d.s)
 
   before : (x : ℕ) → x ≡ t → both_passes d x ≡ 2 * x * sharings
-  before x e = both_whole d wf tables x (omega arith) (λ i k. sound i (omega arith))
+  before x e = both_whole f n d t p x (omega arith) (omega arith)
 
   -- two passes more are still within the most
   room : (x : ℕ) → x ≡ t → 2 * x * sharings + sharings + sharings ≤ 2 * d.k * sharings
@@ -143,10 +146,10 @@ module _ (d : Design) (wf : WellFormed d) (tables : (i : ℕ) → i < d.k → Ta
         let q : both_passes d (t + 1) ≡ correctness_at d x + uniformity_at d x + both_passes d x = rw e (both_more d t) in
         record { listed = omega (arith, once_more x e); most = omega (arith, before x e, room x e, correctness_most d x, uniformity_most d x) }
 
-taken_0 : (d : Design) → WellFormed d → ((i : ℕ) → i < d.k → TablePermutes d i) → ((i : ℕ) → i < d.k → SoundAt d i) → Taken d (answer 0 d.k 0)
+taken_0 : (f : List ℕ) (n : ℕ) (d : Design) → SoundBefore f n d d.k → Taken d (answer 0 d.k 0)
 unfolding trials_of
-taken_0 d wf tables sound =
-    let e = both_whole d wf tables d.k (le_refl d.k) sound in
+taken_0 f n d p =
+    let e = both_whole f n d d.k p d.k (le_refl d.k) (le_refl d.k) in
     record { listed = e; most = omega (arith, e) }
 
 taken : (f : List ℕ) (n : ℕ) (v : Verdict) → Explained f n v → (d : Design) → reading f ≡ means d → Taken d v
@@ -155,19 +158,15 @@ taken f n v why d reads = subst (λ (x : Design). Taken x v) (sym (read_means f 
     of : (v : Verdict) (e : Design) → reading f ≡ means e → Taken e v → Taken (meaning f) v
     of v e r h = subst (λ (x : Design). Taken x v) (read_means f e r) h
 
-    formed : (e : Design) (t : ℕ) → SoundBefore f n e t → WellFormed e
-    formed e t p = read_formed f e p.judgeable.reads
-
     by_outcome : (v : Verdict) → Explained f n v → Taken (meaning f) v
     by_outcome v (refusal r p e w) = let b = reason_range f r p e in none_taken (meaning f) v b.0 (omega arith)
     by_outcome v (fault_8 e r h) = none_taken (meaning f) v (omega arith) (omega arith)
     by_outcome v (fault_9 e r b h) = none_taken (meaning f) v (omega arith) (omega arith)
     by_outcome v (fault_10 e r h) = none_taken (meaning f) v (omega arith) (omega arith)
-    by_outcome v (fault_11 e t r c l b h) = none_taken (meaning f) v (omega arith) (omega arith)
-    by_outcome v (fault_12 e t p l h) = of v e p.judgeable.reads (taken_12 e (formed e t p) p.tables t l p.before)
-    by_outcome v (fault_13 e t j p l c k b h) = of v e p.judgeable.reads (taken_13 e (formed e t p) p.tables t l p.before c (j + 1))
-    by_outcome v (fault_14 e t p l c o h) = of v e p.judgeable.reads (taken_14 e (formed e t p) p.tables t l p.before c)
-    by_outcome v (accepted e p) = of v e p.judgeable.reads (taken_0 e (formed e e.k p) p.tables p.before)
+    by_outcome v (fault_12 e t p l h) = of v e p.judgeable.reads (taken_12 f n e t p l)
+    by_outcome v (fault_13 e t j p l c k b h) = of v e p.judgeable.reads (taken_13 f n e t p l c (j + 1))
+    by_outcome v (fault_14 e t p l c o h) = of v e p.judgeable.reads (taken_14 f n e t p l c)
+    by_outcome v (accepted e p) = of v e p.judgeable.reads (taken_0 f n e p)
 
 -- ---- the trials of a verdict on a file
 

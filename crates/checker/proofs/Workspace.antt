@@ -45,8 +45,7 @@ late_stages d i (g ∷ gs) =
 
 pub late_reasons : (d : Design) → Late (chain_judged d)
 unfolding chain_judged
-late_reasons d =
-    fault_either Late _ _ _ _ (λ e. inr (omega arith)) (λ e. fault_either Late _ _ _ _ (λ e. inr (omega arith)) (λ e. late_stages d 1 d.stages))
+late_reasons d = fault_either Late _ _ _ _ (λ e. inr (omega arith)) (λ e. late_stages d 1 d.stages)
 
 -- ---- zeroed bytes stay so, and are as many
 

@@ -56,11 +56,10 @@ pub record Judgeable (f : List ℕ) (n : ℕ) (d : Design) : Type 0 where
   pub box : Permutation d.m d.box
   pub room : workspace_for d.m d.s ≤ n
 
--- none of the faults up to 11, and none in the stages before stage t
+-- none of the faults up to 10, and none in the stages before stage t
 pub record SoundBefore (f : List ℕ) (n : ℕ) (d : Design) (t : ℕ) : Type 0 where
   pub judgeable : Judgeable f n d
   pub chain : ChainIsBox d
-  pub tables : (i : ℕ) → i < d.k → TablePermutes d i
   pub before : (i : ℕ) → i < t → SoundAt d i
 
 -- one case for each outcome, in the published order
@@ -69,7 +68,6 @@ pub data Explained (f : List ℕ) (n : ℕ) : Verdict → Type 0 where
   fault_8 : (d : Design) → reading f ≡ means d → ¬ Permutation d.m d.box → Explained f n (answer 8 0 0)
   fault_9 : (d : Design) → reading f ≡ means d → Permutation d.m d.box → n < workspace_for d.m d.s → Explained f n (answer 9 0 0)
   fault_10 : (d : Design) → Judgeable f n d → ¬ ChainIsBox d → Explained f n (answer 10 0 0)
-  fault_11 : (d : Design) (t : ℕ) → Judgeable f n d → ChainIsBox d → t < d.k → ((i : ℕ) → i < t → TablePermutes d i) → ¬ TablePermutes d t → Explained f n (answer 11 (t + 1) 0)
   fault_12 : (d : Design) (t : ℕ) → SoundBefore f n d t → t < d.k → ¬ CorrectAt d t → Explained f n (answer 12 (t + 1) 0)
   fault_13 : (d : Design) (t j : ℕ) → SoundBefore f n d t → t < d.k → CorrectAt d t → j < d.s → ((i : ℕ) → i < j → IgnoresSomeAt d t i) → ¬ IgnoresSomeAt d t j
       → Explained f n (answer 13 (t + 1) (j + 1))

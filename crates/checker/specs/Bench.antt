@@ -12,23 +12,27 @@ use Rattle.checker.specs.declared.Verdict.{Verdict}
 use Rattle.checker.specs.declared.Judged.{Judged}
 use Rattle.checker.specs.declared.Forecast.{Forecast}
 
--- D with the box S and the three lists of its stage replaced
-abbrev pub variant_d : List ℕ → List ℕ → List ℕ → List ℕ → List ℕ
-variant_d box a b c = encode (record {
+-- D with the box S, the table and the three lists of its stage replaced
+abbrev pub variant_d : List ℕ → List ℕ → List ℕ → List ℕ → List ℕ → List ℕ
+variant_d box table a b c = encode (record {
   m = 1;
   s = 3;
   k = 1;
   box = box;
-  stages = record { table = 0 ∷ 1 ∷ []; lists = a ∷ b ∷ c ∷ [] } ∷ [];
+  stages = record { table = table; lists = a ∷ b ∷ c ∷ [] } ∷ [];
 })
 
 -- D with another box
 abbrev pub box_d : ℕ → ℕ → List ℕ
-box_d a b = variant_d (a ∷ b ∷ []) (2 ∷ []) (4 ∷ []) (1 ∷ [])
+box_d a b = variant_d (a ∷ b ∷ []) (0 ∷ 1 ∷ []) (2 ∷ []) (4 ∷ []) (1 ∷ [])
+
+-- D with another table
+abbrev pub table_d : ℕ → ℕ → List ℕ
+table_d a b = variant_d (0 ∷ 1 ∷ []) (a ∷ b ∷ []) (2 ∷ []) (4 ∷ []) (1 ∷ [])
 
 -- D with other lists
 abbrev pub lists_d : List ℕ → List ℕ → List ℕ → List ℕ
-lists_d a b c = variant_d (0 ∷ 1 ∷ []) a b c
+lists_d a b c = variant_d (0 ∷ 1 ∷ []) (0 ∷ 1 ∷ []) a b c
 
 pub record VerdictRow : Type 0 where
   pub file : List ℕ
@@ -54,6 +58,8 @@ rows =
     row (lists_d (2 ∷ 4 ∷ []) (1 ∷ []) []) 1 (answer 14 1 0) 13 ∷
     -- S is 1 0: not the chain of tables
     row (box_d 1 0) 1 (answer 10 0 0) 0 ∷
+    -- G repeats an entry: nor is it then
+    row (table_d 0 0) 1 (answer 10 0 0) 0 ∷
     -- S repeats an entry, also with an empty workspace
     row (box_d 0 0) 1 (answer 8 0 0) 0 ∷
     row (box_d 0 0) 0 (answer 8 0 0) 0 ∷

@@ -1,10 +1,10 @@
 -- "Verdict": on a file and a workspace three numbers, the first fault in the published order; and the workspace afterwards.
 use Rattle.std.specs.Prelude.{ℕ, suc, ◌+◌, ◌*◌, ◌/◌, ◌^◌, Bool, not, ◌&&◌, List, [], ◌∷◌, ◌++◌, length, drop, replicate, eqb, ltb, leb}
-use Rattle.finite.specs.Tests.{pick, all, any, first}
+use Rattle.finite.specs.Tests.{pick, all, first}
 use Rattle.finite.specs.Maps.{repeats}
 use Rattle.finite.specs.Faults.{first_fault}
 use Rattle.anf.specs.Tables.{entry}
-use Rattle.design.specs.Design.{Stage, Design, stage_of}
+use Rattle.design.specs.Design.{Stage, Design}
 use Rattle.design.specs.Reading.{Reading, refused, means, meaning, reading}
 use Rattle.threshold.specs.Stages.{correct, depends_on_all, non_complete, uniform}
 use Rattle.threshold.specs.Chain.{chained}
@@ -22,15 +22,8 @@ workspace_for m s = 2 ^ (m * s) / 8
 unfoldable pub chain_is_box : Design → Bool
 chain_is_box d = all (2 ^ d.m) (λ x. eqb (chained d.stages x) (entry d.box x))
 
--- the table of stage t, counted from 0, repeats an entry
-abbrev pub table_repeats : Design → ℕ → Bool
-table_repeats d t = repeats (2 ^ d.m) (entry (stage_of d t).table)
-
--- the first stage whose table repeats an entry, counted from 0; their number where there is none
-unfoldable pub first_repeating : Design → ℕ
-first_repeating d = first d.k (table_repeats d)
-
--- ---- The faults in the published order, read from the top: each a test, with what is answered where it finds a fault.
+-- ---- The faults in the published order, read from the top: each a test, with what is answered where it finds a fault. 11, that a table repeats an entry, is
+-- retired: where S repeats none and the chain of tables is S, no table repeats one.
 
 module _ (d : Design) where
   -- of stage number i
@@ -58,8 +51,6 @@ module _ (d : Design) where
       (ltb n (workspace_for d.m d.s), answer 9 0 0) ∷
       -- the chain of tables is not S
       (not (chain_is_box d), answer 10 0 0) ∷
-      -- a table repeats an entry, with the first such stage
-      (any d.k (table_repeats d), answer 11 (first_repeating d + 1) 0) ∷
       stages_faults 1 d.stages
 
 -- the verdict on a design, with a workspace of n bytes

@@ -4,14 +4,15 @@
 mod forecasts; // forecasts.rt: the workspace and the most trials, from the head
 mod marks; // marks.rt: marks in a lent workspace
 mod stages; // stages.rt: one stage judged on all its sharings
-mod tables; // tables.rt: the chain of tables, and tables that repeat an entry
+mod tables; // tables.rt: the chain of tables
 
 ghost use Rattle.std.specs.Prelude.{◌≡◌, ◌+◌, ◌≤◌, ◌<◌, length};
+ghost use Rattle.anf.specs.Tables.{Permutation};
 ghost use Rattle.design.specs.Reading.{meaning};
 ghost use Rattle.checker.specs.Verdict.{judged, verdict, workspace_left, workspace_after};
 ghost use Rattle.checker.specs.Trials.{both_passes, trials_of, trials as trials_on, judging};
 ghost use Rattle.checker.specs.Outcome.{refusal, verdict_of, judged_of};
-ghost use Rattle.checker.specs.Inside.Parts.{NoneRepeats, stage_judged, stages_judged, chain_judged, stage_tries, fault_of};
+ghost use Rattle.checker.specs.Inside.Parts.{TablesPermute, stage_judged, stages_judged, chain_judged, stage_tries, fault_of};
 ghost use Rattle.checker.specs.Inside.Marks.{Cleared};
 
 use design::{DesignFile, ReadError};
@@ -22,7 +23,7 @@ use reasons::Reason;
 use stages::{first_met, first_wrong, offending, tries};
 use std::error::Error;
 use std::fmt;
-use tables::{chain_is_box, first_repeating};
+use tables::chain_is_box;
 
 /// Why a file is refused, and the place and the component that the reason names: 0 where it names none, as published.
 #[derive(Clone, Copy, Debug, PartialEq, Eq)]
@@ -174,7 +175,7 @@ fn judge_stage(
     workspace: &mut [u8],
     trials: &mut usize,
 ) -> Result<(), Refusal>
-    requires { (t < design.now.head.k) × Cleared design.now.head.m design.now.head.s workspace.old × NoneRepeats (meaning design.now.file.now) × (trials.old ≡ both_passes (meaning design.now.file.now) t) }
+    requires { (t < design.now.head.k) × Cleared design.now.head.m design.now.head.s workspace.old × TablesPermute (meaning design.now.file.now) × (trials.old ≡ both_passes (meaning design.now.file.now) t) }
     ensures value { fault_of result ≡ stage_judged (meaning design.now.file.now) t }
     ensures trials { trials.new ≡ both_passes (meaning design.now.file.now) t + stage_tries (meaning design.now.file.now) t (stage_judged (meaning design.now.file.now) t).reason }
     ensures workspace_unchanged { workspace.new ≡ workspace.old }
@@ -201,7 +202,7 @@ fn judge_stages(
     workspace: &mut [u8],
     trials: &mut usize,
 ) -> Result<usize, Refusal>
-    requires { Cleared design.now.head.m design.now.head.s workspace.old × NoneRepeats (meaning design.now.file.now) × (trials.old ≡ 0) }
+    requires { Cleared design.now.head.m design.now.head.s workspace.old × TablesPermute (meaning design.now.file.now) × (trials.old ≡ 0) }
     ensures value { verdict_of result ≡ stages_judged (meaning design.now.file.now) }
     ensures trials { trials.new ≡ trials_of (meaning design.now.file.now) (stages_judged (meaning design.now.file.now)) }
     ensures workspace_unchanged { workspace.new ≡ workspace.old }
@@ -213,22 +214,19 @@ fn judge_stages(
     Ok(k)
 }
 
-// The chain of tables, the tables and the stages: 10 and above. The marks are zero before and after.
+// The chain of tables and the stages: 10 and above. The marks are zero before and after.
 fn judge_chain(
     design: &DesignFile<'_>,
     workspace: &mut [u8],
     trials: &mut usize,
 ) -> Result<usize, Refusal>
-    requires { Cleared design.now.head.m design.now.head.s workspace.old × (trials.old ≡ 0) }
+    requires { Cleared design.now.head.m design.now.head.s workspace.old × Permutation (meaning design.now.file.now).m (meaning design.now.file.now).box × (trials.old ≡ 0) }
     ensures value { verdict_of result ≡ chain_judged (meaning design.now.file.now) }
     ensures trials { trials.new ≡ trials_of (meaning design.now.file.now) (chain_judged (meaning design.now.file.now)) }
     ensures workspace_unchanged { workspace.new ≡ workspace.old }
 {
     if !chain_is_box(design) {
         return Err(Refusal::new(Reason::ChainIsNotBox, 0, 0));
-    }
-    if let Some(t) = first_repeating(design) {
-        return Err(Refusal::new(Reason::StageRepeats, t + 1, 0));
     }
     judge_stages(design, workspace, trials)
 }

@@ -22,9 +22,7 @@ impl fmt::Display for InWords {
             | Reason::EntryTooLarge
             | Reason::BadTerm
             | Reason::BytesFollow => write!(f, "{reason}, at byte {place}"),
-            Reason::StageRepeats | Reason::NotCorrect | Reason::NotUniform => {
-                write!(f, "stage {place}, {reason}")
-            }
+            Reason::NotCorrect | Reason::NotUniform => write!(f, "stage {place}, {reason}"),
             Reason::NotNonComplete => {
                 write!(f, "stage {place}, component {component}, {reason}")
             }

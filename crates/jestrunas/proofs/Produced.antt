@@ -10,7 +10,7 @@ use Rattle.anf.specs.Tables.{entry, Permutation}
 use Rattle.design.specs.Design.{Design}
 use Rattle.design.specs.Reading.{refused, means, reading}
 use Rattle.checker.specs.Verdict.{answer, workspace_for, verdict}
-use Rattle.checker.specs.Accepted.{ChainIsBox, TablePermutes, CorrectAt, IgnoresSomeAt, Explained, refusal, fault_8, fault_9, fault_10, fault_11, fault_12, fault_13, fault_14, accepted}
+use Rattle.checker.specs.Accepted.{ChainIsBox, CorrectAt, IgnoresSomeAt, Explained, refusal, fault_8, fault_9, fault_10, fault_12, fault_13, fault_14, accepted}
 use Rattle.checker.specs.declared.Verdict.{Verdict}
 use Rattle.checker.proofs.Exactly.{explained}
 use Rattle.direct.specs.Direct.{direct_stage, direct_sharing, Box}
@@ -39,7 +39,6 @@ module _ (m s n : ℕ) (t : List ℕ) (b : Box m s t) (low : degree m (entry t) 
   outcome v (fault_8 e r h) = absurd (subst (λ (x : Design). ¬ Permutation x.m x.box) (same e r) h (λ x y lx ly q. b.injective x y lx ly q))
   outcome v (fault_9 e r p h) = absurd (omega (arith, room, subst (λ (x : Design). n < workspace_for x.m x.s) (same e r) h))
   outcome v (fault_10 e r h) = absurd (subst (λ (x : Design). ¬ ChainIsBox x) (same e r.reads) h (λ x l. sound.chain x))
-  outcome v (fault_11 e i r c l p h) = absurd (never TablePermutes e i r.reads l (λ x y lx ly q. b.injective x y lx ly q) h)
   outcome v (fault_12 e i p l h) = absurd (never CorrectAt e i p.judgeable.reads l sound.correctly h)
   outcome v (fault_13 e i j p l c k q h) =
       absurd (never (λ x y. IgnoresSomeAt x y j) e i p.judgeable.reads l (sound.non_completely j (subst (λ (x : Design). j < x.s) (same e p.judgeable.reads) k)) h)

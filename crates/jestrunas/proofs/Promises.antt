@@ -8,6 +8,9 @@ use Prim.Native.Nat.{ℕ, ◌+◌, ◌*◌, ◌^◌, ◌≤◌, ◌<◌}
 use lib.Count.{ones}
 use lib.ListN.{length, get_or, take, drop}
 use lib.Dec.{eqb}
+use Rattle.reasons.specs.Numbers.{number}
+use Rattle.reasons.specs.declared.Reason.{Reason}
+use Rattle.reasons.proofs.Numbers as numbers
 use Rattle.finite.specs.Tests.{pick, count, tabulate}
 use Rattle.finite.specs.Sums.{xor_below}
 use Rattle.anf.specs.NormalForm.{subset_sum, degree}
@@ -38,9 +41,10 @@ use Rattle.threshold.specs.Running.{running}
 use Rattle.threshold.proofs.Stages.{stage_uniform↔counted}
 use Rattle.checker.specs.Verdict.{answer, workspace_for, verdict}
 use Rattle.checker.specs.Trials.{trials_by_outcome, trials, judging, forecast}
-use Rattle.checker.specs.Accepted.{Accepted, Explained}
+use Rattle.checker.specs.Accepted.{ChainIsBox, TablePermutes, Accepted, Explained}
 use Rattle.checker.specs.Assurance.{Assured, Blind}
 use Rattle.checker.specs.Bench as bench_checker
+use Rattle.checker.proofs.Chaining as chain_of_tables
 use Rattle.checker.proofs.Exactly as exactly
 use Rattle.checker.proofs.Assurance as assured
 use Rattle.checker.proofs.Trials as counting
@@ -129,6 +133,17 @@ accepted_exactly = exactly.accepted_exactly
 -- And any verdict is explained: the fault that it names is there, and none before it in the published order is.
 pub explained : (f : List ℕ) (n : ℕ) → Explained f n (verdict f n)
 explained = exactly.explained
+
+-- In a well-formed design, in which all widths are equal, a chain of tables that is a permutation has only permutations. So 11, a table that repeats an
+-- entry, is retired: no verdict answers it, and no reason has it.
+pub chain_permutes : (d : Design) → WellFormed d → Permutation d.m d.box → ChainIsBox d → (t : ℕ) → t < d.k → TablePermutes d t
+chain_permutes = chain_of_tables.chain_permutes
+
+pub eleven_retired : (f : List ℕ) (n : ℕ) → (verdict f n).reason ≢ 11
+eleven_retired = exactly.eleven_retired
+
+pub eleven_not_given : (r : Reason) → number r ≢ 11
+eleven_not_given = numbers.eleven_not_given
 
 -- 8. Assurance. From reason 0 alone: every component ignores at least one share; whichever share is left out, every setting of the other s - 1 is met exactly
 -- once, for every secret and stage; what a component reads is met equally often for all secrets; and running the same bytes on any sharing of a secret answers

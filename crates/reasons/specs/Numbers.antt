@@ -1,7 +1,7 @@
--- "Verdict", the table of reasons: the number of each. Success is 0.
+-- "Verdict", the table of reasons: the number of each. Success is 0; 11 is retired, and not given again.
 use Rattle.std.specs.Prelude.{ℕ, Result, Ok, Err}
 use Rattle.reasons.specs.declared.Reason.{Reason}
-use Rattle.reasons.specs.declared.Reason.TheVariants.{CutShort, WrongKind, WrongLength, LimitBroken, EntryTooLarge, BadTerm, BytesFollow, BoxRepeats, WorkspaceTooSmall, ChainIsNotBox, StageRepeats, NotCorrect, NotNonComplete, NotUniform, BadShare, DegreeTooHigh, OutputTooShort, InputTooLong, SharesDiffer, TooManyStages}
+use Rattle.reasons.specs.declared.Reason.TheVariants.{CutShort, WrongKind, WrongLength, LimitBroken, EntryTooLarge, BadTerm, BytesFollow, BoxRepeats, WorkspaceTooSmall, ChainIsNotBox, NotCorrect, NotNonComplete, NotUniform, BadShare, DegreeTooHigh, OutputTooShort, InputTooLong, SharesDiffer, TooManyStages}
 
 abbrev pub number : Reason → ℕ
 number CutShort = 1
@@ -14,7 +14,6 @@ number BytesFollow = 7
 number BoxRepeats = 8
 number WorkspaceTooSmall = 9
 number ChainIsNotBox = 10
-number StageRepeats = 11
 number NotCorrect = 12
 number NotNonComplete = 13
 number NotUniform = 14

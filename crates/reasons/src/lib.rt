@@ -17,7 +17,7 @@ pub enum Reason {
     BoxRepeats = 8,
     WorkspaceTooSmall = 9,
     ChainIsNotBox = 10,
-    StageRepeats = 11,
+    // 11 is retired, and not given again
     NotCorrect = 12,
     NotNonComplete = 13,
     NotUniform = 14,
@@ -57,7 +57,6 @@ impl fmt::Display for Reason {
             Reason::BoxRepeats => "S repeats an entry",
             Reason::WorkspaceTooSmall => "the workspace is too small",
             Reason::ChainIsNotBox => "the chain of tables is not S",
-            Reason::StageRepeats => "a table G repeats an entry",
             Reason::NotCorrect => "not correct: the components do not sum to G",
             Reason::NotNonComplete => "not non-complete: a component depends on every share",
             Reason::NotUniform => {

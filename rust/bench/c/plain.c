@@ -195,8 +195,7 @@ jestrunas_judged_t NAME(judge)(const uint8_t *file, size_t file_len, uint8_t *ws
         for (size_t g = 0; g < d.k; g++) y = file[d.start[table_record(&d, g)] + y];
         if (y != file[d.start[1] + x]) { v.reason = 10; return v; }
     }
-    for (size_t g = 0; g < d.k; g++)
-        if (repeats(file + d.start[table_record(&d, g)], size)) { v.reason = 11; v.place = g + 1; return v; }
+    /* 11 is retired, and not given again */
     for (size_t g = 0; g < d.k; g++) {
         v = judge_stage(file, &d, g, ws);
         if (v.reason) return v;

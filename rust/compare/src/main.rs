@@ -4,8 +4,8 @@
 //!     compare [FILES [SEED]]
 //!
 //! FILES is the number of generated files, 200,000 unless said. The last lines count what was compared; the exit
-//! status is 1 at a difference (printed with the file and both answers), or where a reason, a place where trials stop, a way in which
-//! components ignore shares (`Ignored`), or two refusals of joining at once (`Together`) never occurred.
+//! status is 1 at a difference (printed with the file and both answers), where a reason that is not due occurred, or where one that is, a
+//! place where trials stop, a way in which components ignore shares (`Ignored`), or two refusals of joining at once (`Together`) never did.
 
 use compare::depend::{changed_by, shares_read};
 use compare::hex;
@@ -14,7 +14,7 @@ use compare::make::{self, D, SIZES};
 use compare::random::Random;
 use jestrunas::{native, PRODUCED_MAX, WORKSPACE_MAX};
 use reference::samples::{chain, one_bit};
-use reference::{encode, Answer, Design, Shares};
+use reference::{encode, repeats, Answer, Design, Shares};
 use std::fmt::Debug;
 use std::time::Instant;
 
@@ -33,17 +33,15 @@ impl Counts {
         self.by_reason.iter().sum()
     }
 
+    /// Answers whether each reason that is due was answered, and no other.
     fn say(&self, what: &str, due: &[usize]) -> bool {
-        let seen: Vec<String> = (0..21)
-            .filter(|&r| self.by_reason[r] > 0 || due.contains(&r))
-            .map(|r| format!("{r}:{}", self.by_reason[r]))
-            .collect();
-        println!("{what}: {} calls, by reason {}", self.total(), seen.join(" "));
-        let missing: Vec<&usize> = due.iter().filter(|&&r| self.by_reason[r] == 0).collect();
-        if !missing.is_empty() {
-            println!("{what}: never answered {missing:?}");
+        let answered: Vec<usize> = (0..21).filter(|&r| self.by_reason[r] > 0).collect();
+        let counts: Vec<String> = answered.iter().map(|&r| format!("{r}:{}", self.by_reason[r])).collect();
+        println!("{what}: {} calls, by reason {}", self.total(), counts.join(" "));
+        if answered != due {
+            println!("{what}: {due:?} are due");
         }
-        missing.is_empty()
+        answered == due
     }
 }
 
@@ -200,6 +198,8 @@ struct Comparison {
     reads: Counts,
     forecasts: Counts,
     verdicts: Counts,
+    /// Verdicts on designs in which the table of a stage repeats an entry, with workspace enough.
+    repeating: Counts,
     correctness: Stops,
     uniformity: Stops,
     ignored: Ignored,
@@ -229,6 +229,7 @@ impl Comparison {
             reads: Counts::default(),
             forecasts: Counts::default(),
             verdicts: Counts::default(),
+            repeating: Counts::default(),
             correctness: Stops::default(),
             uniformity: Stops::default(),
             ignored: Ignored::default(),
@@ -389,6 +390,9 @@ impl Comparison {
                     self.differs("the forecast holds", file, forecast, full);
                 }
                 self.ignored.add(full, design);
+                if design.stages.iter().any(|stage| repeats(&stage.table)) {
+                    self.repeating.add(full[0]);
+                }
                 let more = enough + self.random.below(3) * self.random.below(40);
                 self.judge(file, full, Some(design), more);
                 if self.random.once_in(4) {
@@ -736,6 +740,21 @@ impl Comparison {
         }
     }
 
+    /// Every S, and every table for each of up to four stages, of one bit in three shares.
+    fn tables(&mut self) {
+        let all: [[u8; 2]; 4] = [[0, 0], [0, 1], [1, 0], [1, 1]];
+        for k in 1..=4 {
+            for chosen in 0..1usize << (2 * k) {
+                let tables: Vec<&[u8]> = (0..k).map(|i| &all[chosen >> (2 * i) & 3][..]).collect();
+                for table in all {
+                    let mut design = chain(1, 3, &tables);
+                    design.table = table.to_vec();
+                    self.compare_file(&encode(&design));
+                }
+            }
+        }
+    }
+
     /// Forecasts of heads with every m and s that two bytes can say, alone or with bytes after them.
     fn heads(&mut self) {
         for m in 0..=255 {
@@ -866,11 +885,12 @@ fn main() {
     c.edges();
     c.changes();
     c.affine();
+    c.tables();
     c.heads();
     c.pairs();
     c.large();
     println!(
-        "edges, changes, affine designs of one bit, heads, pairs and large designs: {} files, {:.1} s",
+        "edges, changes, affine designs and tables of one bit, heads, pairs and large designs: {} files, {:.1} s",
         c.files,
         start.elapsed().as_secs_f64()
     );
@@ -885,8 +905,9 @@ fn main() {
     }
     complete &= c.reads.say("read", &[0, 1, 2, 3, 4, 5, 6, 7]);
     complete &= c.forecasts.say("forecast", &[0, 1, 2, 3, 4]);
-    // 11 cannot occur: a chain of tables that equals a permutation is made of permutations.
+    // 11 is retired: a table that repeats an entry shows in S or in the chain.
     complete &= c.verdicts.say("judge", &[0, 1, 2, 3, 4, 5, 6, 7, 8, 9, 10, 12, 13, 14]);
+    complete &= c.repeating.say("judge, a stage's table repeats an entry", &[8, 10]);
     complete &= c.correctness.say("correctness", true);
     // Uniformity cannot stop at the last sharing: one output would be met twice and one never, and all outputs would sum to the sum of
     // these two; but they sum to zero, since each component ignores a share.

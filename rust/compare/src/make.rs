@@ -225,6 +225,13 @@ pub fn design(random: &mut Random, m: usize, s: usize, k: usize) -> Design {
             table.swap(a, b);
         }
         3 => random.shuffle(&mut stages),
+        4 => {
+            // the table of a stage repeats an entry
+            let stage = random.below(k);
+            let from = random.below(1 << m);
+            let table = &mut stages[stage].table;
+            table[random.below(1 << m)] = table[from];
+        }
         _ => {}
     }
     Design { m, s, table, stages }

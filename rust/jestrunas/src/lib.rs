@@ -50,8 +50,7 @@ pub enum Reason {
     WorkspaceTooSmall = 9,
     /// The chain of tables is not S.
     ChainIsNotBox = 10,
-    /// The table of a stage repeats an entry.
-    StageRepeats = 11,
+    // 11 is retired, and not given again.
     /// A stage is not correct: for some sharing the output shares do not sum to its table's entry.
     NotCorrect = 12,
     /// A stage is not non-complete: a component depends on every share.
@@ -73,8 +72,8 @@ pub enum Reason {
 }
 
 impl Reason {
-    /// Every reason, by its number.
-    pub const ALL: [Reason; 20] = [
+    /// Every reason, their numbers rising.
+    pub const ALL: [Reason; 19] = [
         Reason::CutShort,
         Reason::WrongKind,
         Reason::WrongLength,
@@ -85,7 +84,6 @@ impl Reason {
         Reason::BoxRepeats,
         Reason::WorkspaceTooSmall,
         Reason::ChainIsNotBox,
-        Reason::StageRepeats,
         Reason::NotCorrect,
         Reason::NotNonComplete,
         Reason::NotUniform,
@@ -102,9 +100,9 @@ impl Reason {
         self as usize
     }
 
-    /// The reason with a published number, 1 to 20.
+    /// The reason with a published number, 1 to 20; none has 11, which is retired.
     pub fn from_number(number: usize) -> Option<Reason> {
-        Reason::ALL.get(number.checked_sub(1)?).copied()
+        Reason::ALL.into_iter().find(|reason| reason.number() == number)
     }
 }
 
@@ -121,7 +119,6 @@ impl fmt::Display for Reason {
             Reason::BoxRepeats => "the box repeats an entry",
             Reason::WorkspaceTooSmall => "the workspace is too small",
             Reason::ChainIsNotBox => "the chain of tables is not S",
-            Reason::StageRepeats => "the table of a stage repeats an entry",
             Reason::NotCorrect => "a stage is not correct",
             Reason::NotNonComplete => "a stage is not non-complete: a component depends on every share",
             Reason::NotUniform => "a stage is not uniform",
@@ -150,7 +147,7 @@ pub struct Accepted {
 #[derive(Clone, Copy, Debug, PartialEq, Eq, Hash)]
 pub struct Refusal {
     pub reason: Reason,
-    /// For reasons 1 to 7 a byte of the file, counted from 0; for 11 to 14 the stage, counted from 1; otherwise 0.
+    /// For reasons 1 to 7 a byte of the file, counted from 0; for 12 to 14 the stage, counted from 1; otherwise 0.
     pub place: usize,
     /// For reason 13 the lowest component that depends on every share, counted from 1; otherwise 0.
     pub component: usize,
@@ -171,7 +168,6 @@ impl fmt::Display for Refusal {
             Reason::EntryTooLarge => write!(f, "the table at byte {place} has an entry that is 2^m or more"),
             Reason::BadTerm => write!(f, "the list at byte {place} has a term beyond m * s or one that does not rise"),
             Reason::BytesFollow => write!(f, "bytes follow the end, from byte {place}"),
-            Reason::StageRepeats => write!(f, "the table of stage {place} repeats an entry"),
             Reason::NotCorrect => write!(f, "stage {place} is not correct"),
             Reason::NotNonComplete => write!(f, "component {component} of stage {place} depends on every share"),
             Reason::NotUniform => write!(f, "stage {place} is not uniform"),
@@ -301,12 +297,10 @@ mod tests {
 
     #[test]
     fn every_reason_has_its_number() {
-        for (i, reason) in Reason::ALL.iter().enumerate() {
-            assert_eq!(reason.number(), i + 1);
-            assert_eq!(Reason::from_number(i + 1), Some(*reason));
-        }
-        assert_eq!(Reason::from_number(0), None);
-        assert_eq!(Reason::from_number(21), None);
+        let numbers: Vec<usize> = (0..30).filter(|&number| Reason::from_number(number).is_some()).collect();
+        assert_eq!(numbers, Reason::ALL.map(Reason::number));
+        // 11 is retired
+        assert_eq!(numbers, (1..=20).filter(|&number| number != 11).collect::<Vec<_>>());
     }
 
     /// The number that the C header gives a name.

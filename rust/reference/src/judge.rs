@@ -117,7 +117,8 @@ fn uniformity_trials(m: usize, s: usize, outputs: &mut Outputs) -> (usize, bool)
     pass(m, s, |shares| !std::mem::replace(&mut met[number(m, &outputs.at(shares))], true))
 }
 
-/// The verdict on a design that was read, in a workspace of a given length.
+/// The verdict on a design that was read, in a workspace of a given length. 11 is retired: where the chain is S, which repeats no entry,
+/// no table repeats one.
 pub fn verdict(design: &Design, workspace: usize) -> Answer {
     let Design { m, s, table, stages } = design;
     let (m, s) = (*m, *s);
@@ -130,9 +131,6 @@ pub fn verdict(design: &Design, workspace: usize) -> Answer {
     let through = |x: u8| stages.iter().fold(x, |x, stage| stage.table[usize::from(x)]);
     if (0..1 << m).any(|x| through(x) != table[usize::from(x)]) {
         return [10, 0, 0, 0];
-    }
-    if let Some(i) = stages.iter().position(|stage| repeats(&stage.table)) {
-        return [11, i + 1, 0, 0];
     }
     let mut trials = 0;
     for (i, stage) in stages.iter().enumerate() {

@@ -45,6 +45,12 @@ fn d_and_its_neighbours() {
         file
     };
     assert_eq!(verdict(&with_box([1, 0])), [10, 0, 0, 0]);
+    let with_table = |table: [u8; 2]| {
+        let mut file = D;
+        file[17..19].copy_from_slice(&table);
+        file
+    };
+    assert_eq!(verdict(&with_table([0, 0])), [10, 0, 0, 0]);
     assert_eq!(verdict(&with_box([0, 0])), [8, 0, 0, 0]);
     assert_eq!(judge(&with_box([0, 0]), &mut []), [8, 0, 0, 0]);
     assert_eq!(judge(&D, &mut []), [9, 0, 0, 0]);

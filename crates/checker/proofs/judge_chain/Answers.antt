@@ -1,5 +1,5 @@
 -- `judge_chain` meets its contract: each way out is a law of `JudgingDesign`, whose premises `search` finds among what is known there.
-use Rattle.checker.proofs.JudgingDesign.{chain_wrong, chain_wrong_trials, number_fits, table_repeated, table_repeated_trials, none_repeats, stages_answer, stages_trials}
+use Rattle.checker.proofs.JudgingDesign.{chain_wrong, chain_wrong_trials, tables_permute, stages_answer, stages_trials}
 use Rattle.checker.proofs.judge_chain.Goals as goal
 
 pub returns-then-not-chain_is_box-clause-value : goal.returns-then-not-chain_is_box-clause-value
@@ -8,17 +8,8 @@ returns-then-not-chain_is_box-clause-value c = search chain_wrong
 pub returns-then-not-chain_is_box-clause-trials : goal.returns-then-not-chain_is_box-clause-trials
 returns-then-not-chain_is_box-clause-trials c = search chain_wrong_trials
 
-pub overflow_add-t : goal.overflow_add-t
-overflow_add-t c = search number_fits
-
-pub returns-in-Some-clause-value : goal.returns-in-Some-clause-value
-returns-in-Some-clause-value c = search table_repeated
-
-pub returns-in-Some-clause-trials : goal.returns-in-Some-clause-trials
-returns-in-Some-clause-trials c = search table_repeated_trials
-
 pub judge_stages-requires : goal.judge_stages-requires
-judge_stages-requires c = search none_repeats
+judge_stages-requires c = search tables_permute
 
 pub returns-clause-value : goal.returns-clause-value
 returns-clause-value c = search stages_answer

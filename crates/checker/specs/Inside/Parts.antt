@@ -1,10 +1,11 @@
 -- What the functions below `judge` answer: parts of the verdict on a design, and what the passes over sharings find.
-use Rattle.std.specs.Prelude.{ℕ, ◌+◌, ◌*◌, ◌^◌, ◌<◌, ◌≡◌, Bool, false, ◌||◌, Option, Some, None, Result, Ok, Err, List, [], get_or, drop, eqb}
+use Rattle.std.specs.Prelude.{ℕ, ◌+◌, ◌*◌, ◌^◌, ◌<◌, Bool, ◌||◌, Option, Some, None, Result, Ok, Err, List, [], get_or, drop, eqb}
 use Rattle.finite.specs.Tests.{pick, any, first}
 use Rattle.finite.specs.Faults.{first_fault}
 use Rattle.anf.specs.Terms.{names}
 use Rattle.design.specs.Design.{Stage, Design, stage_of}
-use Rattle.checker.specs.Verdict.{answer, table_repeats, stage_faults, stages_faults, faults}
+use Rattle.checker.specs.Verdict.{answer, stage_faults, stages_faults, faults}
+use Rattle.checker.specs.Accepted.{TablePermutes}
 use Rattle.checker.specs.Trials.{sums_wrong, output_met, correctness_at, uniformity_at}
 use Rattle.checker.specs.Outcome.{refused_with}
 use Rattle.checker.specs.declared.Verdict.{Verdict}
@@ -14,7 +15,7 @@ use Rattle.checker.specs.declared.Refusal.{Refusal}
 unfoldable pub stage_judged : Design → ℕ → Verdict
 stage_judged d t = first_fault (stage_faults d (t + 1) (stage_of d t)) (answer 0 0 0)
 
--- the verdict where none of the faults up to 11 is there
+-- the verdict where none of the faults up to 10 is there
 unfoldable pub stages_judged : Design → Verdict
 stages_judged d = first_fault (stages_faults d 1 d.stages) (answer 0 d.k 0)
 
@@ -62,5 +63,5 @@ abbrev pub stage_tries : Design → ℕ → ℕ → ℕ
 stage_tries d t reason = correctness_at d t + pick (eqb reason 12 || eqb reason 13) 0 (uniformity_at d t)
 
 -- no table repeats an entry
-abbrev pub NoneRepeats : Design → Type 0
-NoneRepeats d = any d.k (table_repeats d) ≡ false
+abbrev pub TablesPermute : Design → Type 0
+TablesPermute d = (t : ℕ) → t < d.k → TablePermutes d t
