@@ -6,7 +6,7 @@ mod marks; // marks.rt: marks in a lent workspace
 mod stages; // stages.rt: one stage judged on all its sharings
 mod tables; // tables.rt: the chain of tables
 
-ghost use Rattle.std.specs.Prelude.{◌≡◌, ◌+◌, ◌≤◌, ◌<◌, length};
+ghost use Rattle.std.specs.Prelude.{◌≡◌, ◌+◌, ◌<◌, length};
 ghost use Rattle.anf.specs.Tables.{Permutation};
 ghost use Rattle.design.specs.Reading.{meaning};
 ghost use Rattle.checker.specs.Verdict.{judged, verdict, workspace_left, workspace_after};
