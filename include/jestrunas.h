@@ -65,6 +65,7 @@ extern "C" {
 #define JESTRUNAS_INPUT_TOO_LONG 18      /* the verdict program only: its input exceeds 32,768 bytes */
 #define JESTRUNAS_SHARES_DIFFER 19       /* join: the widths or the share counts of the two designs differ */
 #define JESTRUNAS_TOO_MANY_STAGES 20     /* join: the two designs have more than four stages together */
+#define JESTRUNAS_BAD_PLACEMENT 21       /* produce: the placement has not 2^s - 2 components, each outside its set */
 
 /*
  * The answer of reading, and the three numbers of a verdict.
@@ -157,12 +158,27 @@ jestrunas_judged_t jestrunas_judge(const uint8_t *file, size_t file_len, uint8_t
 jestrunas_run_t jestrunas_run(const uint8_t *file, size_t file_len, jestrunas_shares_t shares);
 
 /*
- * Writes the direct sharing of a table in s shares as a design file of one stage. Answers 0 and the file's length,
- * the bytes past it untouched; or 4, 3, 5, 8, 16 or 17, tested in this order, and length 0, the output untouched.
- * What is produced reads, is correct and non-complete, component c ignoring share c: with enough workspace its verdict
- * is 0 or 14.
+ * The published placements, for 3, 4 and 5 shares: a product goes to the lowest component c outside its set of shares for
+ * which c + 1 (after s comes 1) is in the set. With them produce writes the direct sharing of the papers.
  */
-jestrunas_produced_t jestrunas_produce(size_t m, size_t s, const uint8_t *table, size_t table_len, uint8_t *output,
+static const uint8_t jestrunas_placement_3[6] = {3, 1, 3, 2, 2, 1};
+static const uint8_t jestrunas_placement_4[14] = {4, 1, 4, 2, 2, 1, 4, 3, 3, 1, 3, 2, 2, 1};
+static const uint8_t jestrunas_placement_5[30] = {5, 1, 5, 2, 2, 1, 5, 3, 3, 1, 3, 2, 2, 1, 5,
+                                                  4, 4, 1, 4, 2, 2, 1, 4, 3, 3, 1, 3, 2, 2, 1};
+
+/*
+ * Writes the direct sharing of a table in s shares as a design file of one stage, each product in the component that the
+ * placement says. In a product a share is chosen for each variable; the set of the chosen shares is the number J whose
+ * bit j - 1 is set for each share j in it. The placement has 2^s - 2 bytes, for J from 1 on: the byte at index J - 1 is
+ * the component, from 1 to s, of every product with the set J, and its share is not in J. The constant, for which no share
+ * is chosen, goes to component 1. No product has all s shares, since the degree is below s.
+ * Answers 0 and the file's length, whatever the placement the same, the bytes past it untouched; or 4, 3, 5, 8, 21, 16 or
+ * 17, tested in this order, and length 0, the output untouched. What is produced, by any placement, reads, is correct and
+ * non-complete, component c ignoring share c: with enough workspace its verdict is 0 or 14. The table and the placement
+ * are only read.
+ */
+jestrunas_produced_t jestrunas_produce(size_t m, size_t s, const uint8_t *table, size_t table_len,
+                                       const uint8_t *placement, size_t placement_len, uint8_t *output,
                                        size_t output_len);
 
 /*

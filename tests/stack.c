@@ -15,7 +15,8 @@ enum { ROOM = 1 << 16, PATTERN = 0xa5 };
 
 static uint8_t stack[ROOM] __attribute__((aligned(4096)));
 static uint8_t file[1 << 20], other[sizeof file], workspace[JESTRUNAS_WORKSPACE_MAX], output[JESTRUNAS_PRODUCED_MAX], table[64];
-static size_t file_len, other_len, width, shares, table_len;
+static const uint8_t *placement;
+static size_t file_len, other_len, width, shares, table_len, placement_len;
 static jestrunas_shares_t given;
 static ucontext_t here, there;
 
@@ -24,7 +25,9 @@ static void call_read(void) { jestrunas_read(file, file_len); }
 static void call_forecast(void) { jestrunas_forecast(file, file_len); }
 static void call_judge(void) { jestrunas_judge(file, file_len, workspace, sizeof workspace); }
 static void call_run(void) { jestrunas_run(file, file_len, given); }
-static void call_produce(void) { jestrunas_produce(width, shares, table, table_len, output, sizeof output); }
+static void call_produce(void) {
+    jestrunas_produce(width, shares, table, table_len, placement, placement_len, output, sizeof output);
+}
 static void call_join(void) { jestrunas_join(file, file_len, other, other_len, output, sizeof output); }
 static void call_transform(void) { jestrunas_transform(width, table, table_len, output, sizeof output); }
 
@@ -86,14 +89,19 @@ static void measure_file(const char *name) {
     }
 }
 
-/* The table that adds the product of its lowest bits, as many as `degree`, to the bit after them. */
+/* The table that adds the product of its lowest bits, as many as `degree`, to the bit after them, by the published placements. */
 static void measure_table(size_t degree) {
+    const uint8_t *placements[] = {jestrunas_placement_3, jestrunas_placement_4, jestrunas_placement_5};
     table_len = (size_t)1 << width;
     for (size_t x = 0; x < table_len; x++) {
         size_t all = ((size_t)1 << degree) - 1;
         table[x] = (uint8_t)((x & all) == all ? x ^ (all + 1) : x);
     }
-    for (shares = JESTRUNAS_SHARES_MIN; shares <= JESTRUNAS_SHARES_MAX; shares++) measure(PRODUCE);
+    for (shares = JESTRUNAS_SHARES_MIN; shares <= JESTRUNAS_SHARES_MAX; shares++) {
+        placement = placements[shares - JESTRUNAS_SHARES_MIN];
+        placement_len = ((size_t)1 << shares) - 2;
+        measure(PRODUCE);
+    }
     measure(TRANSFORM);
 }
 

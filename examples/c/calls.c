@@ -84,13 +84,26 @@ int main(void) {
     expect(jestrunas_run(NULL, 0, shares).reason == JESTRUNAS_CUT_SHORT, "run nothing");
 
     memset(output, 9, sizeof output);
-    jestrunas_produced_t made = jestrunas_produce(1, 3, not_box, 2, output, sizeof output);
+    jestrunas_produced_t made = jestrunas_produce(1, 3, not_box, 2, jestrunas_placement_3, 6, output, sizeof output);
     expect(made.reason == JESTRUNAS_OK && made.length == 51 && output[51] == 9, "produce 1 0");
+    expect(output[23] == 0 && output[27] == 2 && output[35] == 4 && output[43] == 1, "the lists of 1 0: {0, 2}, {4}, {1}");
     expect(judged(jestrunas_judge(output, made.length, workspace, 2), JESTRUNAS_ACCEPTED, 1, 0, 16), "judge what is produced");
-    made = jestrunas_produce(1, 3, not_box, 2, NULL, 0);
+    const uint8_t turned[6] = {2, 3, 3, 1, 2, 1}, in_its_set[6] = {1, 1, 3, 2, 2, 1};
+    made = jestrunas_produce(1, 3, not_box, 2, turned, 6, output, sizeof output);
+    expect(made.reason == JESTRUNAS_OK && made.length == 51 && output[51] == 9, "produce 1 0 by another placement");
+    expect(output[23] == 0 && output[27] == 4 && output[35] == 1 && output[43] == 2, "its lists: {0, 4}, {1}, {2}");
+    expect(judged(jestrunas_judge(output, made.length, workspace, 2), JESTRUNAS_ACCEPTED, 1, 0, 16), "judge what is placed otherwise");
+    made = jestrunas_produce(1, 3, not_box, 2, jestrunas_placement_3, 6, NULL, 0);
     expect(made.reason == JESTRUNAS_OUTPUT_TOO_SHORT && made.length == 0, "produce into no output");
-    expect(jestrunas_produce(4, 2, NULL, 0, NULL, 0).reason == JESTRUNAS_LIMIT_BROKEN, "produce with two shares");
-    expect(jestrunas_produce(1, 3, NULL, 0, NULL, 0).reason == JESTRUNAS_WRONG_LENGTH, "produce from no table");
+    expect(jestrunas_produce(4, 2, NULL, 0, NULL, 0, NULL, 0).reason == JESTRUNAS_LIMIT_BROKEN, "produce with two shares");
+    expect(jestrunas_produce(1, 3, NULL, 0, NULL, 0, NULL, 0).reason == JESTRUNAS_WRONG_LENGTH, "produce from no table");
+    made = jestrunas_produce(1, 3, not_box, 2, in_its_set, 6, NULL, 0);
+    expect(made.reason == JESTRUNAS_BAD_PLACEMENT && made.length == 0, "produce with share 1 placed in component 1");
+    made = jestrunas_produce(1, 3, not_box, 2, jestrunas_placement_3, 5, output, sizeof output);
+    expect(made.reason == JESTRUNAS_BAD_PLACEMENT && made.length == 0, "produce by five bytes");
+    expect(jestrunas_produce(1, 3, not_box, 2, NULL, 0, NULL, 0).reason == JESTRUNAS_BAD_PLACEMENT, "produce by no placement");
+    made = jestrunas_produce(1, 5, not_box, 2, jestrunas_placement_5, 30, output, sizeof output);
+    expect(made.reason == JESTRUNAS_OK && made.length == 67, "produce 1 0 with five shares");
 
     uint8_t twice[80], four[140], untouched[sizeof output];
     memset(twice, 9, sizeof twice);
@@ -109,10 +122,10 @@ int main(void) {
     made = jestrunas_join(four, 137, d, sizeof d, output, sizeof output);
     expect(made.reason == JESTRUNAS_TOO_MANY_STAGES && made.length == 0, "join to five stages");
     const uint8_t two_bits[4] = {0, 1, 2, 3};
-    size_t other_len = jestrunas_produce(2, 3, two_bits, 4, other, sizeof other).length;
+    size_t other_len = jestrunas_produce(2, 3, two_bits, 4, jestrunas_placement_3, 6, other, sizeof other).length;
     made = jestrunas_join(four, 137, other, other_len, output, sizeof output);
     expect(made.reason == JESTRUNAS_SHARES_DIFFER && made.length == 0, "join two widths");
-    other_len = jestrunas_produce(1, 4, not_box, 2, other, sizeof other).length;
+    other_len = jestrunas_produce(1, 4, not_box, 2, jestrunas_placement_4, 14, other, sizeof other).length;
     made = jestrunas_join(other, other_len, d, sizeof d, output, sizeof output);
     expect(made.reason == JESTRUNAS_SHARES_DIFFER && made.length == 0, "join two share counts");
     made = jestrunas_join(d, sizeof d, d, sizeof d, output, 76);

@@ -1,5 +1,5 @@
-// Judges published designs. A line of its input is `m s TABLE`, a table to produce with s shares and to judge, or `file HEX`, a
-// design file to judge. It prints what came of each line, and at the end how many were accepted and how many were refused with
+// Judges published designs. A line of its input is `m s TABLE` or `m s TABLE PLACEMENT`, a table to produce with s shares, by the published placement where none
+// is named, and to judge; or `file HEX`, a design file to judge. It prints what came of each line, and at the end how many were accepted and how many were refused with
 // each number.
 #![tactic(auto)]
 
@@ -16,6 +16,9 @@ const MOST_INPUT: u64 = 131072;
 
 // The most entries of a table that are read: one more than a table has.
 const MOST_ENTRIES: usize = 65;
+
+// The most bytes of a placement that are read: one more than a placement has.
+const MOST_PLACEMENT: usize = 31;
 
 // The most bytes of a design file.
 const MOST_BYTES: usize = 32768;
@@ -39,10 +42,11 @@ fn judge_table(
     m: usize,
     s: usize,
     table: &[u8],
+    placement: &[u8],
     workspace: &mut [u8],
 ) -> io::Result<Outcome> {
     let mut output = vec![in rt.alloc(); 0u8; MOST_BYTES]?;
-    match producer::produce(m, s, table, &mut output) {
+    match producer::produce(m, s, table, placement, &mut output) {
         Ok(length) => {
             print!(rt; " produce 0 {length}")?;
             output.truncate(length);
@@ -71,7 +75,12 @@ fn judge_line(
         let mut table = [0u8; MOST_ENTRIES];
         let request = words.request(&mut table);
         let entries = &table[..request.count];
-        judge_table(rt, request.m, request.s, entries, workspace)
+        let mut bytes = [0u8; MOST_PLACEMENT];
+        let placement = match words.placement(&mut bytes) {
+            0 => producer::published_placement(request.s),
+            named => &bytes[..named],
+        };
+        judge_table(rt, request.m, request.s, entries, placement, workspace)
     }
 }
 

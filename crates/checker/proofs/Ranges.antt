@@ -1,12 +1,11 @@
--- What an iterator asks of all numbers below n, as a test over them; and what iterators give of the sharings with their outputs. Assumes nothing.
-use mathlib.Core.Path.{◌≡◌, refl, sym, ap, ap₂, ◌∙◌}
-use mathlib.Core.Bool.{Bool, ◌&&◌}
+-- What iterators give of the sharings with their outputs. Assumes nothing.
+use mathlib.Core.Path.{◌≡◌, ap, ap₂, ◌∙◌}
 use mathlib.Core.List.{List, [], ◌∷◌, ◌++◌}
-use Prim.Native.Nat.{ℕ, zero, suc, ◌+◌, ◌^◌, ◌<◌, min}
+use Prim.Native.Nat.{ℕ, ◌+◌, ◌^◌, ◌<◌, min}
 use native.Mathlib.Omega.{arith}
 use Rattle.std.specs.Prelude.{Option, Some, None}
 use lib.ListN.{length, length-append}
-use Rattle.std.specs.List.{list_all, range_with_len, zip}
+use Rattle.std.specs.List.{range_with_len, zip}
 use Rattle.std.specs.Iterator.{Yields, YieldsFirst}
 use Rattle.std.specs.Iterator.Adapters.{zip_first, zip_second}
 use Rattle.std.specs.declared.iter.Zip.{Zip}
@@ -16,22 +15,11 @@ use Rattle.std.proofs.lemmas.Iterator.{YieldsList, zips, YieldsList-from_range, 
 use Rattle.std.proofs.lemmas.Iterator.Consumers.{YieldsList-from_first, YieldsList-turn, YieldsList-end}
 use Rattle.std.proofs.lemmas.List.FromFn.{length-range_with_len, get_or-range_with_len}
 use Rattle.std.proofs.lemmas.Slice.Zip.{length-zip, get_or-zip}
-use Rattle.finite.specs.Tests.{all, tabulate}
-use Rattle.finite.proofs.Lists.{all_first}
-use Rattle.finite.proofs.Testing.{all_congr, tabulate_length, tabulate_at}
+use Rattle.finite.specs.Tests.{tabulate}
+use Rattle.finite.proofs.Testing.{tabulate_length, tabulate_at}
 use Rattle.threshold.specs.Stages.{output}
 use Rattle.threshold.specs.Inside.Outputs.{left}
 use Rattle.threshold.specs.declared.blocks.Outputs.{Outputs}
-
--- `all`
-all_from : (n a : ℕ) (p : ℕ → Bool) → list_all p (range_with_len a n) ≡ all n (λ i. p (a + i))
-unfolding all
-all_from zero a p = refl
-all_from (suc n) a p =
-    ap₂ (λ (x : ℕ) (b : Bool). p x && b) (omega arith) (all_from n (a + 1) p ∙ all_congr n _ _ (λ i l. ap p (omega arith))) ∙ sym (all_first n (λ i. p (a + i)))
-
-pub all_range : (n : ℕ) (p : ℕ → Bool) → list_all p (range_with_len 0 n) ≡ all n p
-all_range n p = all_from n 0 p ∙ all_congr n _ _ (λ i l. ap p (omega arith))
 
 -- ---- the sharings from 0 on, each with its output
 

@@ -1,6 +1,6 @@
 -- What a head within the limits says: the limits as inequalities, one by one, and what follows for products.
 use Prim.Native.Nat.{ℕ, ◌+◌, ◌*◌, ◌≤◌}
-use mathlib.Core.Path.{◌≡◌, refl}
+use mathlib.Core.Path.{◌≡◌, refl, ap}
 use mathlib.Core.Bool.{Bool, true, false}
 use native.Mathlib.Omega.{arith}
 use native.Mathlib.Nat.{mul-le-mul}
@@ -8,8 +8,11 @@ use borrow.Author.Tests.{ltb-false, le-ltb}
 use mathlib.Core.List.{[], ◌∷◌}
 use Rattle.finite.specs.Tests.{pick}
 use Rattle.finite.proofs.Testing.{or_false}
-use Rattle.design.specs.Limits.{greatest_width, least_shares, greatest_shares, greatest_share_bits, greatest_stages, broken, checked, head_answer}
-use Rattle.std.specs.Prelude.{Ok, Err}
+use Rattle.design.specs.Limits.{greatest_width, least_shares, greatest_shares, greatest_share_bits, greatest_stages, Head, broken, checked, head_answer}
+use Rattle.std.specs.Prelude.{Result, Ok, Err}
+use Rattle.reasons.specs.Numbers.{reason_of}
+use Rattle.reasons.specs.declared.Reason.{Reason}
+use Rattle.reasons.proofs.Numbers.{number_some}
 use Rattle.reasons.specs.declared.Reason.TheVariants.{LimitBroken}
 
 pub record Bounds (m s k : ℕ) : Type 0 where
@@ -57,7 +60,29 @@ pub unbroken : (m s k : ℕ) → 1 ≤ m → m ≤ greatest_width → least_shar
 unfolding broken
 unbroken m s k a b c d e f g = simp (le-ltb _ _ a, le-ltb _ _ b, le-ltb _ _ c, le-ltb _ _ d, le-ltb _ _ e, le-ltb _ _ f, le-ltb _ _ g)
 
--- ---- the answer of the head's constructor in the paper's numbers
+-- with fewer stages too
+pub one_stage : (m s k : ℕ) → broken m s k ≡ false → broken m s 1 ≡ false
+one_stage m s k e = let b = bounds m s k e in unbroken m s 1 b.m_low b.m_high b.s_low b.s_high b.bits (omega arith) (omega arith)
+
+-- ---- the answer of the head's constructor
+
+module _ (m s k : ℕ) where
+  pub head_refused : (r : Reason) → ◌≡◌ {A = Result Head Reason} (Err r) (checked m s k) → (r ≡ LimitBroken) × (broken m s k ≡ true)
+  head_refused r e = at (broken m s k) refl e
+    where
+      at : (b : Bool) → broken m s k ≡ b → ◌≡◌ {A = Result Head Reason} (Err r) (pick b (Err LimitBroken) (Ok (record { m = m; s = s; k = k })))
+          → (r ≡ LimitBroken) × (broken m s k ≡ true)
+      at true q z = (cc, q)
+      at false q z = let o : reason_of {T = Head} (Err r) ≡ 0 = ap reason_of z in absurd (number_some r o)
+
+  pub head_made : (h : Head) → ◌≡◌ {A = Result Head Reason} (Ok h) (checked m s k) → h ≡ record { m = m; s = s; k = k }
+  head_made h e = at (broken m s k) e
+    where
+      at : (b : Bool) → ◌≡◌ {A = Result Head Reason} (Ok h) (pick b (Err LimitBroken) (Ok (record { m = m; s = s; k = k }))) → h ≡ record { m = m; s = s; k = k }
+      at true z = let o : ◌≡◌ {A = ℕ} 0 4 = ap reason_of z in absurd (omega arith)
+      at false z = cc
+
+-- ---- and in the paper's numbers
 
 module _ (m s k : ℕ) where
   pub head_answer_lem : head_answer (checked m s k) ≡ pick (broken m s k) (4, []) (0, m ∷ s ∷ k ∷ [])

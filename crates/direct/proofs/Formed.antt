@@ -33,43 +33,43 @@ few_products m s h =
     leb-true (suc s ^ m) greatest_terms
     (implies_at (not (broken m s 1)) (leb (suc s ^ m) greatest_terms) (all_at 6 _ (all_at 7 _ powers m (omega (arith, b.m_high))) s (omega (arith, b.s_high))) (ap not h))
 
-pub list_size : (m s : ℕ) (f : ℕ → ℕ) (c b : ℕ) → broken m s 1 ≡ false → length (direct_list m s f c b) ≤ greatest_terms
+pub list_size : (m s : ℕ) (place : ℕ → ℕ) (f : ℕ → ℕ) (c b : ℕ) → broken m s 1 ≡ false → length (direct_list m s place f c b) ≤ greatest_terms
 unfolding direct_list
-list_size m s f c b h =
+list_size m s place f c b h =
     omega (
       arith,
-      passing_length (2 ^ (m * s)) (stands m s f c b),
-      count_mono (2 ^ (m * s)) (stands m s f c b) (λ p. any (2 ^ m) (λ u. is_product m s u p)) (λ p l e. some p e),
+      passing_length (2 ^ (m * s)) (stands m s place f c b),
+      count_mono (2 ^ (m * s)) (stands m s place f c b) (λ p. any (2 ^ m) (λ u. is_product m s u p)) (λ p l e. some p e),
       products_most m s,
       few_products m s h,
     )
   where
-    some : (p : ℕ) → stands m s f c b p ≡ true → any (2 ^ m) (λ u. is_product m s u p) ≡ true
+    some : (p : ℕ) → stands m s place f c b p ≡ true → any (2 ^ m) (λ u. is_product m s u p) ≡ true
     some p e =
         let u = any_some (2 ^ m) (λ u. is_product m s u p && has (f u) b) (unfold stands in and_left _ _ e) in
         any_at (2 ^ m) (λ u. is_product m s u p) u.0 u.1 (and_left (is_product m s u.0 p) (has (f u.0) b) u.2)
 
-pub list_fits : (m s : ℕ) (f : ℕ → ℕ) (c b : ℕ) → broken m s 1 ≡ false → ListFits (m * s) (direct_list m s f c b)
-list_fits m s f c b h = record { size = list_size m s f c b h; terms = unfold direct_list in passing_terms (m * s) (stands m s f c b) }
+pub list_fits : (m s : ℕ) (place : ℕ → ℕ) (f : ℕ → ℕ) (c b : ℕ) → broken m s 1 ≡ false → ListFits (m * s) (direct_list m s place f c b)
+list_fits m s place f c b h = record { size = list_size m s place f c b h; terms = unfold direct_list in passing_terms (m * s) (stands m s place f c b) }
 
-pub stage_fits : (m s : ℕ) (t : List ℕ) → broken m s 1 ≡ false → TableFits m t → StageFits m s (direct_stage m s t)
-stage_fits m s t h fits = record {
+pub stage_fits : (m s : ℕ) (place : ℕ → ℕ) (t : List ℕ) → broken m s 1 ≡ false → TableFits m t → StageFits m s (direct_stage m s place t)
+stage_fits m s place t h fits = record {
   table = unfold direct_stage in fits;
-  count = lists_length m s t;
-  list = λ l k. subst (ListFits (m * s)) (sym (at l k)) (list_fits m s (subset_sum m (entry t)) (l / m) (l % m) h);
+  count = lists_length m s place t;
+  list = λ l k. subst (ListFits (m * s)) (sym (at l k)) (list_fits m s place (subset_sum m (entry t)) (l / m) (l % m) h);
 }
   where
-    at : (l : ℕ) → l < m * s → get_or (direct_stage m s t).lists l [] ≡ direct_list m s (subset_sum m (entry t)) (l / m) (l % m)
+    at : (l : ℕ) → l < m * s → get_or (direct_stage m s place t).lists l [] ≡ direct_list m s place (subset_sum m (entry t)) (l / m) (l % m)
     at l k =
         let b = bounds m s 1 h in
-        ap (λ (i : ℕ). get_or (direct_stage m s t).lists i []) (sym (div-add-mod l m))
-        ∙ list_at m s t (l / m) (l % m) ((div-lt_iff_lt-mul (omega (arith, b.m_low))).1 (omega (arith, mul_comm m s))) (mod-lt l (omega (arith, b.m_low)))
+        ap (λ (i : ℕ). get_or (direct_stage m s place t).lists i []) (sym (div-add-mod l m))
+        ∙ list_at m s place t (l / m) (l % m) ((div-lt_iff_lt-mul (omega (arith, b.m_low))).1 (omega (arith, mul_comm m s))) (mod-lt l (omega (arith, b.m_low)))
 
-pub sharing_formed : (m s : ℕ) (t : List ℕ) → broken m s 1 ≡ false → TableFits m t → WellFormed (direct_sharing m s t)
+pub sharing_formed : (m s : ℕ) (place : ℕ → ℕ) (t : List ℕ) → broken m s 1 ≡ false → TableFits m t → WellFormed (direct_sharing m s place t)
 unfolding direct_sharing
-sharing_formed m s t h fits = record {
+sharing_formed m s place t h fits = record {
   limits = h;
   box = fits;
   count = refl;
-  stage = λ k l. subst (λ (i : ℕ). StageFits m s (get_or (direct_stage m s t ∷ []) i (record { table = []; lists = [] }))) (sym (lib.Arith.lt-one l)) (stage_fits m s t h fits);
+  stage = λ k l. subst (λ (i : ℕ). StageFits m s (get_or (direct_stage m s place t ∷ []) i (record { table = []; lists = [] }))) (sym (lib.Arith.lt-one l)) (stage_fits m s place t h fits);
 }

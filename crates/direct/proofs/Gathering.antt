@@ -23,7 +23,7 @@ use Rattle.anf.proofs.Terms.{Rising, before_lt, before_not}
 use Rattle.anf.proofs.Passing.{passing_rising, passing_congr, passing_none}
 use Rattle.design.specs.Limits.{greatest_terms, broken}
 use Rattle.design.proofs.Limits.{bounds}
-use Rattle.direct.specs.Direct.{is_product, chosen, component_for, stands, direct_list}
+use Rattle.direct.specs.Direct.{is_product, chosen, stands, direct_list}
 use Rattle.direct.specs.Inside.Expanding.{joined, ending, emitted, placed_in, inserted_all, brought}
 use Rattle.direct.proofs.Products.{product_term}
 use Rattle.direct.proofs.Formed.{list_size}
@@ -80,17 +80,17 @@ inserted_passing (suc n) t P l f =
 
 -- ---- the products of a term
 
-module _ (m s u c : ℕ) (some : 0 < m) where
+module _ (m s : ℕ) (place : ℕ → ℕ) (u c : ℕ) (some : 0 < m) where
   abbrev N : ℕ
   N = 2 ^ (m * s)
 
   abbrev goes : ℕ → Bool
-  goes q = eqb (component_for s (chosen m s q)) c
+  goes q = eqb (place (chosen m s q)) c
 
   abbrev Added : ℕ → ℕ → Type 0
   Added v p =
       (P : ℕ → Bool) → ((q : ℕ) → q < N → extends m s u v p q ≡ true → P q ≡ false)
-      → inserted_all (emitted m s u c v p (chosen m s p)) (passing N P) ≡ passing N (λ q. P q || (extends m s u v p q && goes q))
+      → inserted_all (emitted m s place u c v p (chosen m s p)) (passing N P) ≡ passing N (λ q. P q || (extends m s u v p q && goes q))
 
   -- no variable left
   added_end : (p : ℕ) → p < N → Added 0 p
@@ -98,9 +98,9 @@ module _ (m s u c : ℕ) (some : 0 < m) where
   added_end p lp P apart = at (true_or_false (goes p))
     where
       at : (goes p ≡ true) ⊎ (goes p ≡ false)
-          → inserted_all (ending s c p (chosen m s p)) (passing N P) ≡ passing N (λ q. P q || (extends m s u 0 p q && goes q))
+          → inserted_all (ending place c p (chosen m s p)) (passing N P) ≡ passing N (λ q. P q || (extends m s u 0 p q && goes q))
       at (inl t) =
-          ap (λ (ts : List ℕ). inserted_all ts (passing N P)) (ending_here s c p (chosen m s p) (eqb-true _ _ t))
+          ap (λ (ts : List ℕ). inserted_all ts (passing N P)) (ending_here place c p (chosen m s p) (eqb-true _ _ t))
           ∙ inserted_one p (passing N P)
           ∙ inserted_passing N p P lp (apart p lp (extends_none m s u p p some lp lp ∙ eq-eqb p p refl))
           ∙ passing_congr N _ _ (λ q l. ap (λ (b : Bool). P q || b) (here q (true_or_false (eqb q p)) ∙ ap (λ (b : Bool). b && goes q) (sym (extends_none m s u p q some lp l))))
@@ -110,7 +110,7 @@ module _ (m s u c : ℕ) (some : 0 < m) where
           here q (inr e) = e ∙ sym (ap (λ (b : Bool). b && goes q) e)
       at (inr f) =
           ap (λ (ts : List ℕ). inserted_all ts (passing N P))
-          (ending_other s c p (chosen m s p) (λ e. clash (eq-eqb (component_for s (chosen m s p)) c e) f))
+          (ending_other place c p (chosen m s p) (λ e. clash (eq-eqb (place (chosen m s p)) c e) f))
           ∙ inserted_none (passing N P)
           ∙ passing_congr N _ _ (λ q l. sym (ap (λ (b : Bool). P q || (b && goes q)) (extends_none m s u p q some lp l) ∙ other q (true_or_false (eqb q p)) ∙ or_false_right (P q) false refl))
         where
@@ -126,13 +126,13 @@ module _ (m s u c : ℕ) (some : 0 < m) where
     -- the products of the first k shares
     added_shares : has u v ≡ true → (P : ℕ → Bool) → ((q : ℕ) → q < N → extends m s u (suc v) p q ≡ true → P q ≡ false)
         → (k : ℕ) → k ≤ s
-        → inserted_all (joined k (through m s u c v p (chosen m s p))) (passing N P) ≡ passing N (λ q. P q || (any k (λ j. extends m s u v (p_with j) q) && goes q))
+        → inserted_all (joined k (through m s place u c v p (chosen m s p))) (passing N P) ≡ passing N (λ q. P q || (any k (λ j. extends m s u v (p_with j) q) && goes q))
     unfolding joined any
     added_shares t P apart zero h = inserted_none (passing N P) ∙ passing_congr N _ _ (λ q l. sym (or_false_right (P q) false refl))
     added_shares t P apart (suc k) h =
-        inserted_all_append (joined k (through m s u c v p (chosen m s p))) (through m s u c v p (chosen m s p) k) (passing N P)
-        ∙ ap (inserted_all (through m s u c v p (chosen m s p) k)) (added_shares t P apart k (omega arith))
-        ∙ ap (λ (J : ℕ). inserted_all (emitted m s u c v (p_with k) J) (passing N before_k)) (sym (chosen_with m s p k v h lv))
+        inserted_all_append (joined k (through m s place u c v p (chosen m s p))) (through m s place u c v p (chosen m s p) k) (passing N P)
+        ∙ ap (inserted_all (through m s place u c v p (chosen m s p) k)) (added_shares t P apart k (omega arith))
+        ∙ ap (λ (J : ℕ). inserted_all (emitted m s place u c v (p_with k) J) (passing N before_k)) (sym (chosen_with m s p k v h lv))
         ∙ onward (p_with k) (with_lt m s u v p lv clean k h lp) (clean_with m s u v p lv clean k h) before_k fresh
         ∙ passing_congr N _ _ (λ q l. group (P q) (any k (λ j. extends m s u v (p_with j) q)) (extends m s u v (p_with k) q) (goes q))
       where
@@ -158,7 +158,7 @@ module _ (m s u c : ℕ) (some : 0 < m) where
     added_more P apart = at (true_or_false (has u v))
       where
         at : (has u v ≡ true) ⊎ (has u v ≡ false)
-            → inserted_all (pick (has u v) (joined s (through m s u c v p (chosen m s p))) (emitted m s u c v p (chosen m s p))) (passing N P)
+            → inserted_all (pick (has u v) (joined s (through m s place u c v p (chosen m s p))) (emitted m s place u c v p (chosen m s p))) (passing N P)
             ≡ passing N (λ q. P q || (extends m s u (suc v) p q && goes q))
         at (inl t) =
             ap (λ (ts : List ℕ). inserted_all ts (passing N P)) (pick_true (has u v) _ _ t)
@@ -175,12 +175,12 @@ module _ (m s u c : ℕ) (some : 0 < m) where
 
 -- ---- the products of all terms of an output bit
 
-module _ (m s : ℕ) (some : 0 < m) (words : ℕ → ℕ) (c b : ℕ) where
+module _ (m s : ℕ) (place : ℕ → ℕ) (some : 0 < m) (words : ℕ → ℕ) (c b : ℕ) where
   abbrev pub brings : ℕ → List ℕ
-  brings u = brought m s c b (words u) u
+  brings u = brought m s place c b (words u) u
 
   abbrev so_far : ℕ → ℕ → Bool
-  so_far n q = any n (λ u. is_product m s u q && has (words u) b) && eqb (component_for s (chosen m s q)) c
+  so_far n q = any n (λ u. is_product m s u q && has (words u) b) && eqb (place (chosen m s q)) c
 
   gathered_below : (n : ℕ) → n ≤ 2 ^ m → inserted_all (joined n brings) [] ≡ passing (2 ^ (m * s)) (so_far n)
   unfolding joined any
@@ -192,12 +192,12 @@ module _ (m s : ℕ) (some : 0 < m) (words : ℕ → ℕ) (c b : ℕ) where
     where
       at : (has (words n) b ≡ true) ⊎ (has (words n) b ≡ false)
           → inserted_all (brings n) (passing (2 ^ (m * s)) (so_far n))
-          ≡ passing (2 ^ (m * s)) (λ q. (any n (λ u. is_product m s u q && has (words u) b) || (is_product m s n q && has (words n) b)) && eqb (component_for s (chosen m s q)) c)
+          ≡ passing (2 ^ (m * s)) (λ q. (any n (λ u. is_product m s u q && has (words u) b) || (is_product m s n q && has (words n) b)) && eqb (place (chosen m s q)) c)
       at (inl t) =
-          ap (λ (ts : List ℕ). inserted_all ts (passing (2 ^ (m * s)) (so_far n))) (pick_true (has (words n) b) _ [] t ∙ ap (emitted m s n c m 0) (sym (chosen_none m s)))
-          ∙ added m s n c some m 0 (omega arith) (pow_pos (m * s)) (λ w l j k. has_none (m * j + w)) (so_far n)
-          (λ q l e. ap (λ (x : Bool). x && eqb (component_for s (chosen m s q)) c) (not_true_false _ (λ y. fresh q (sym (extends_all m s n 0 q) ∙ e) (any_some n _ y))))
-          ∙ passing_congr (2 ^ (m * s)) _ _ (λ q l. group (any n (λ u. is_product m s u q && has (words u) b)) (eqb (component_for s (chosen m s q)) c)
+          ap (λ (ts : List ℕ). inserted_all ts (passing (2 ^ (m * s)) (so_far n))) (pick_true (has (words n) b) _ [] t ∙ ap (emitted m s place n c m 0) (sym (chosen_none m s)))
+          ∙ added m s place n c some m 0 (omega arith) (pow_pos (m * s)) (λ w l j k. has_none (m * j + w)) (so_far n)
+          (λ q l e. ap (λ (x : Bool). x && eqb (place (chosen m s q)) c) (not_true_false _ (λ y. fresh q (sym (extends_all m s n 0 q) ∙ e) (any_some n _ y))))
+          ∙ passing_congr (2 ^ (m * s)) _ _ (λ q l. group (any n (λ u. is_product m s u q && has (words u) b)) (eqb (place (chosen m s q)) c)
           (extends m s n m 0 q) (is_product m s n q) (has (words n) b) (extends_all m s n 0 q) t)
         where
           fresh : (q : ℕ) → is_product m s n q ≡ true → (u : ℕ) × (u < n) × ((is_product m s u q && has (words u) b) ≡ true) → ⊥
@@ -223,7 +223,7 @@ module _ (m s : ℕ) (some : 0 < m) (words : ℕ → ℕ) (c b : ℕ) where
       at (inr f) =
           ap (λ (ts : List ℕ). inserted_all ts (passing (2 ^ (m * s)) (so_far n))) (pick_false (has (words n) b) _ [] f)
           ∙ inserted_none (passing (2 ^ (m * s)) (so_far n))
-          ∙ passing_congr (2 ^ (m * s)) _ _ (λ q l. ap (λ (x : Bool). x && eqb (component_for s (chosen m s q)) c)
+          ∙ passing_congr (2 ^ (m * s)) _ _ (λ q l. ap (λ (x : Bool). x && eqb (place (chosen m s q)) c)
           (sym (ap (λ (y : Bool). any n (λ u. is_product m s u q && has (words u) b) || (is_product m s n q && y)) f ∙ no (any n (λ u. is_product m s u q && has (words u) b)) (is_product m s n q))))
         where
           no : (x i : Bool) → (x || (i && false)) ≡ x
@@ -231,7 +231,7 @@ module _ (m s : ℕ) (some : 0 < m) (words : ℕ → ℕ) (c b : ℕ) where
           no false true = refl
           no false false = refl
 
-  pub gathered : inserted_all (joined (2 ^ m) brings) [] ≡ direct_list m s words c b
+  pub gathered : inserted_all (joined (2 ^ m) brings) [] ≡ direct_list m s place words c b
   unfolding direct_list stands
   gathered = gathered_below (2 ^ m) (omega arith)
 
@@ -250,22 +250,22 @@ inserted_all_length (t ∷ ts) l = inserted_all_length ts (placed_in t l) ∙ om
 
 -- ---- the loop over the terms u, where w are the coefficient words
 
-unfoldable pub bringing : ℕ → ℕ → ℕ → ℕ → List ℕ → ℕ → List ℕ
-bringing m s c b w u = brought m s c b (get_or w u 0) u
+unfoldable pub bringing : ℕ → ℕ → (ℕ → ℕ) → ℕ → ℕ → List ℕ → ℕ → List ℕ
+bringing m s place c b w u = brought m s place c b (get_or w u 0) u
 
-module _ (m s : ℕ) (limits : broken m s 1 ≡ false) (c b : ℕ) (w : List ℕ) where
-  pub gathered_all : inserted_all (joined (2 ^ m) (bringing m s c b w)) [] ≡ direct_list m s (λ u. get_or w u 0) c b
+module _ (m s : ℕ) (place : ℕ → ℕ) (limits : broken m s 1 ≡ false) (c b : ℕ) (w : List ℕ) where
+  pub gathered_all : inserted_all (joined (2 ^ m) (bringing m s place c b w)) [] ≡ direct_list m s place (λ u. get_or w u 0) c b
   unfolding bringing
-  gathered_all = gathered m s (omega (arith, (bounds m s 1 limits).m_low)) (λ u. get_or w u 0) c b
+  gathered_all = gathered m s place (omega (arith, (bounds m s 1 limits).m_low)) (λ u. get_or w u 0) c b
 
   -- there is room for what each term brings
-  pub bringing_fits : (u : ℕ) → u < 2 ^ m → length (inserted_all (joined u (bringing m s c b w)) []) + length (bringing m s c b w u) ≤ greatest_terms
+  pub bringing_fits : (u : ℕ) → u < 2 ^ m → length (inserted_all (joined u (bringing m s place c b w)) []) + length (bringing m s place c b w u) ≤ greatest_terms
   bringing_fits u l =
       omega (
         arith,
-        inserted_all_length (joined u (bringing m s c b w)) [],
-        joined_within (2 ^ m) u (bringing m s c b w) l,
-        inserted_all_length (joined (2 ^ m) (bringing m s c b w)) [],
+        inserted_all_length (joined u (bringing m s place c b w)) [],
+        joined_within (2 ^ m) u (bringing m s place c b w) l,
+        inserted_all_length (joined (2 ^ m) (bringing m s place c b w)) [],
         ap length gathered_all,
-        list_size m s (λ v. get_or w v 0) c b limits,
+        list_size m s place (λ v. get_or w v 0) c b limits,
       )

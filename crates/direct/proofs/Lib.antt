@@ -10,6 +10,6 @@ pub mod Inserting
 pub mod Emitting
 pub mod Choosing
 pub mod Gathering
-pub mod Ruling
+pub mod Loading
 pub mod Stepping
 pub mod Bench

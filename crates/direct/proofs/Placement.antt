@@ -1,5 +1,5 @@
--- The component to which a product goes: where fewer shares are chosen than there are, it is one of the s components, and its share is not chosen.
--- Walking on from a chosen share one comes to one that is not: if none stood before a chosen one, all would be chosen.
+-- The component to which a product goes: where fewer shares are chosen than there are, it is one of the s components, and its share is not chosen. So it is
+-- by the published rule, and by any table that loads.
 use mathlib.Core.Path.{◌≡◌, refl, sym, ap, ◌∙◌}
 use mathlib.Core.Logic.{◌⊎◌, inl, inr, ⊎_elim}
 use mathlib.Core.Bool.{Bool, true, false, not, ◌&&◌}
@@ -31,7 +31,13 @@ chosen_has m s p j l = made_has (λ i. not (eqb (share m i p) 0)) s j l
 pub unchosen : (m s p j : ℕ) → j < s → has (chosen m s p) j ≡ false → share m j p ≡ 0
 unchosen m s p j l e = eqb-true _ _ (not-false _ (sym (chosen_has m s p j l) ∙ e))
 
--- ---- the component
+-- ---- what is asked of a placement: where a share is not chosen, the component is one of the s, and its share is not chosen
+
+pub record Outside (s : ℕ) (place : ℕ → ℕ) : Type 0 where
+  pub some : (J : ℕ) → J < 2 ^ s → (c : ℕ) → c < s → has J c ≡ false → place J < s
+  pub outside : (J : ℕ) → J < 2 ^ s → (c : ℕ) → c < s → place J ≡ c → has J c ≡ false
+
+-- ---- the published rule: walking on from a chosen share one comes to one that is not; if none stood before a chosen one, all would be chosen
 
 module _ (s J : ℕ) where
   abbrev goes : ℕ → Bool
@@ -56,7 +62,7 @@ module _ (s J : ℕ) where
       at ih (yes e) = ap (has J) e ∙ h
       at ih (no n) = ih (omega arith)
 
-  pub goes_some : (c d : ℕ) → c < s → d < s → has J c ≡ false → has J d ≡ true → any s goes ≡ true
+  goes_some : (c d : ℕ) → c < s → d < s → has J c ≡ false → has J d ≡ true → any s goes ≡ true
   goes_some c d lc ld nc yd = ⊎_elim (λ t. t) (λ f. absurd (clash (all f) nc)) (true_or_false (any s goes))
     where
       all : any s goes ≡ false → has J c ≡ true
@@ -66,7 +72,7 @@ module _ (s J : ℕ) where
           c (omega arith)
 
   -- a component among the s is outside J
-  pub component_outside : (c : ℕ) → c < s → component_for s J ≡ c → has J c ≡ false
+  component_outside : (c : ℕ) → c < s → component_for s J ≡ c → has J c ≡ false
   unfolding component_for
   component_outside c l e = at (true_or_false (eqb J 0))
     where
@@ -82,7 +88,7 @@ module _ (s J : ℕ) where
           from (inr n) = absurd (omega (arith, first_none s goes n, f))
 
   -- where some share is not chosen, it is one of the s
-  pub component_lt : J < 2 ^ s → (c : ℕ) → c < s → has J c ≡ false → component_for s J < s
+  component_lt : J < 2 ^ s → (c : ℕ) → c < s → has J c ≡ false → component_for s J < s
   unfolding component_for
   component_lt lJ c l n = at (true_or_false (eqb J 0))
     where
@@ -91,6 +97,9 @@ module _ (s J : ℕ) where
       at (inr z) =
           let d = any_some s (has J) (some_element s J lJ (eqb-false J 0 z)) in
           rw z (first_is s goes (goes_some c d.0 l d.1 n d.2)).0
+
+pub rule_outside : (s : ℕ) → Outside s (component_for s)
+rule_outside s = record { some = component_lt s; outside = λ J l. component_outside s J }
 
 -- ---- a product of fewer than s variables leaves a share out
 
@@ -114,7 +123,8 @@ left_out m s u p l e h = at (true_or_false (any s (λ j. eqb (share m j p) 0)))
             let v = any_some m (has (share m j p)) (some_element m (share m j p) (share_lt m j p) (eqb-false _ _ (any_none s _ f j k))) in
             count_has m (λ v. has p (m * j + v)) v.0 v.1 (sym (share_has m j p v.0 v.1) ∙ v.2)
 
-pub product_component : (m s u p : ℕ) → u < 2 ^ m → is_product m s u p ≡ true → ones u < s → component_for s (chosen m s p) < s
-product_component m s u p l e h =
+pub product_component : (m s : ℕ) (place : ℕ → ℕ) → Outside s place
+    → (u p : ℕ) → u < 2 ^ m → is_product m s u p ≡ true → ones u < s → place (chosen m s p) < s
+product_component m s place o u p l e h =
     let c = left_out m s u p l e h in
-    component_lt s (chosen m s p) (chosen_lt m s p) c.0 c.1 (chosen_has m s p c.0 c.1 ∙ ap not (eq-eqb _ _ c.2))
+    o.some (chosen m s p) (chosen_lt m s p) c.0 c.1 (chosen_has m s p c.0 c.1 ∙ ap not (eq-eqb _ _ c.2))

@@ -16,7 +16,8 @@ use Rattle.threshold.specs.Stages.{component}
 use Rattle.threshold.specs.Running.{packed}
 use Rattle.threshold.proofs.Sharing.{sum_shares}
 use Rattle.threshold.proofs.Packing.{packed_lt, packed_set, share_packed}
-use Rattle.direct.specs.Direct.{direct_stage, Shareable}
+use Rattle.direct.specs.Direct.{component_for, direct_stage, Shareable}
+use Rattle.direct.proofs.Placement.{rule_outside}
 use Rattle.direct.proofs.Stage.{direct_correct, direct_non_complete}
 
 module _ (m s : ℕ) (t : List ℕ) (some : 1 ≤ s) where
@@ -38,9 +39,9 @@ module _ (m s : ℕ) (t : List ℕ) (some : 1 ≤ s) where
 
   pub low_shareable : TableFits m t → degree m (entry t) < s → Shareable m s t
   low_shareable fits low = record {
-    F = component m (direct_stage m s t).lists;
-    correct = direct_correct m s t fits low;
-    non_complete = direct_non_complete m s t;
+    F = component m (direct_stage m s (component_for s) t).lists;
+    correct = direct_correct m s (component_for s) (rule_outside s) t fits low;
+    non_complete = direct_non_complete m s (component_for s) (rule_outside s) t;
   }
 
   pub shareable_exactly : TableFits m t → Shareable m s t ↔ degree m (entry t) < s

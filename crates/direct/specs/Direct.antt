@@ -1,11 +1,11 @@
 -- "The direct sharing" of a box.
-use Rattle.std.specs.Prelude.{ℕ, ◌+◌, ◌*◌, ◌/◌, ◌%◌, ◌^◌, ◌≡◌, Bool, false, not, ◌&&◌, List, [], ◌∷◌, eqb}
+use Rattle.std.specs.Prelude.{ℕ, ◌+◌, ◌-◌, ◌*◌, ◌/◌, ◌%◌, ◌^◌, ◌≡◌, ◌<◌, ◌≤◌, Bool, false, not, ◌&&◌, List, [], ◌∷◌, length, get_or, eqb, leb}
 use Rattle.finite.specs.Tests.{pick, all, any, first, total, bit, count, tabulate}
 use Rattle.finite.specs.Sets.{has}
 use Rattle.anf.specs.NormalForm.{subset_sum}
 use Rattle.anf.specs.Terms.{passing}
 use Rattle.anf.specs.Tables.{entry, Permutation}
-use Rattle.design.specs.Limits.{broken}
+use Rattle.design.specs.Limits.{least_shares, greatest_shares, broken}
 use Rattle.design.specs.Design.{Stage, Design, TableFits}
 use Rattle.threshold.specs.Sharing.{share}
 use Rattle.threshold.specs.Stages.{Correct, NonComplete}
@@ -18,32 +18,59 @@ is_product m s u p = all m (λ v. eqb (count s (λ j. has p (m * j + v))) (bit (
 unfoldable pub chosen : ℕ → ℕ → ℕ → ℕ
 chosen m s p = total s (λ j. bit (not (eqb (share m j p) 0)) * 2 ^ j)
 
+-- ---- the placement: to which component a product goes, by the set J of its chosen shares. Components are counted from 0 here, and from 1 in a table.
+
+-- c is, counted from 1, one of s components outside the set J
+unfoldable pub is_outside : ℕ → ℕ → ℕ → Bool
+is_outside s J c = leb 1 c && leb c s && not (has J (c - 1))
+
+-- A placement table loads: it has a byte for each set from 1 to 2^s - 2, set 1 first, and each is a component outside its set.
+unfoldable pub loads : ℕ → List ℕ → Bool
+loads s l = eqb (length l) (2 ^ s - 2) && all (2 ^ s - 2) (λ i. is_outside s (i + 1) (get_or l i 0))
+
+-- the same as propositions
+pub record Loads (s : ℕ) (l : List ℕ) : Type 0 where
+  pub size : length l ≡ 2 ^ s - 2
+  pub least : (i : ℕ) → i < 2 ^ s - 2 → 1 ≤ get_or l i 0
+  pub most : (i : ℕ) → i < 2 ^ s - 2 → get_or l i 0 ≤ s
+  pub outside : (i : ℕ) → i < 2 ^ s - 2 → has (i + 1) (get_or l i 0 - 1) ≡ false
+
+-- The component by a table: the constant goes to the first, a set that has no byte, as that of all shares, to none, for which s stands.
+unfoldable pub placed : ℕ → List ℕ → ℕ → ℕ
+placed s l J = pick (eqb J 0) 0 (get_or l (J - 1) (s + 1) - 1)
+
 -- the component after c: after the last comes the first
 abbrev pub after : ℕ → ℕ → ℕ
 after s c = pick (eqb (c + 1) s) 0 (c + 1)
 
--- The component, counted from 0, to which a product goes: the lowest c outside J with the one after it in J. The constant goes to the first.
+-- The published rule: the lowest component c outside J with the one after it in J. The constant goes to the first.
 unfoldable pub component_for : ℕ → ℕ → ℕ
 component_for s J = pick (eqb J 0) 0 (first s (λ c. not (has J c) && has J (after s c)))
 
+-- the published placement: the rule as a table, for as many shares as there may be
+unfoldable pub published : ℕ → List ℕ
+published s = pick (leb least_shares s && leb s greatest_shares) (tabulate (2 ^ s - 2) (λ i. component_for s (i + 1) + 1)) []
+
+-- ---- the sharing by a placement
+
 -- With the coefficient words of a box: p stands in the list of bit b of component c. It is a product of a term of output bit b, and goes to component c.
-unfoldable pub stands : ℕ → ℕ → (ℕ → ℕ) → ℕ → ℕ → ℕ → Bool
-stands m s words c b p = any (2 ^ m) (λ u. is_product m s u p && has (words u) b) && eqb (component_for s (chosen m s p)) c
+unfoldable pub stands : ℕ → ℕ → (ℕ → ℕ) → (ℕ → ℕ) → ℕ → ℕ → ℕ → Bool
+stands m s place words c b p = any (2 ^ m) (λ u. is_product m s u p && has (words u) b) && eqb (place (chosen m s p)) c
 
 -- these products in rising order
-unfoldable pub direct_list : ℕ → ℕ → (ℕ → ℕ) → ℕ → ℕ → List ℕ
-direct_list m s words c b = passing (2 ^ (m * s)) (stands m s words c b)
+unfoldable pub direct_list : ℕ → ℕ → (ℕ → ℕ) → (ℕ → ℕ) → ℕ → ℕ → List ℕ
+direct_list m s place words c b = passing (2 ^ (m * s)) (stands m s place words c b)
 
 -- component 1 first, in each component bit 0 first
-unfoldable pub direct_lists : ℕ → ℕ → (ℕ → ℕ) → List (List ℕ)
-direct_lists m s words = tabulate (m * s) (λ i. direct_list m s words (i / m) (i % m))
+unfoldable pub direct_lists : ℕ → ℕ → (ℕ → ℕ) → (ℕ → ℕ) → List (List ℕ)
+direct_lists m s place words = tabulate (m * s) (λ i. direct_list m s place words (i / m) (i % m))
 
-unfoldable pub direct_stage : ℕ → ℕ → List ℕ → Stage
-direct_stage m s t = record { table = t; lists = direct_lists m s (subset_sum m (entry t)) }
+unfoldable pub direct_stage : ℕ → ℕ → (ℕ → ℕ) → List ℕ → Stage
+direct_stage m s place t = record { table = t; lists = direct_lists m s place (subset_sum m (entry t)) }
 
 -- one stage, with G equal to S
-unfoldable pub direct_sharing : ℕ → ℕ → List ℕ → Design
-direct_sharing m s t = record { m = m; s = s; k = 1; box = t; stages = direct_stage m s t ∷ [] }
+unfoldable pub direct_sharing : ℕ → ℕ → (ℕ → ℕ) → List ℕ → Design
+direct_sharing m s place t = record { m = m; s = s; k = 1; box = t; stages = direct_stage m s place t ∷ [] }
 
 -- "Terms of threshold implementation": some component functions, whatever they are, share the table correctly and non-completely with s shares
 pub record Shareable (m s : ℕ) (t : List ℕ) : Type 0 where

@@ -1,2 +1,3 @@
 -- What contracts inside the library need: no published contract and no promise speaks of it.
 pub mod Expanding
+pub mod Placing

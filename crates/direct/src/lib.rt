@@ -1,13 +1,13 @@
-// The direct sharing: the rule, the expansion of terms into products, and the list of one bit of one component.
+// The direct sharing: the placement, the expansion of terms into products, and the list of one bit of one component.
 #![tactic(auto)]
 
 mod list; // list.rt: a list of terms that grows in fixed memory
 
-ghost use Rattle.std.specs.Prelude.{◌≡◌, true, false, MatchResult, ◌+◌, ◌-◌, ◌^◌, ◌<◌, ◌≤◌, length, get_or};
+ghost use Rattle.std.specs.Prelude.{◌≡◌, false, MatchResult, ◌+◌, ◌-◌, ◌^◌, ◌<◌, ◌≤◌, length, get_or};
 ghost use Rattle.std.specs.Int.Bits.{bit_or};
 ghost use Rattle.finite.specs.Sets.{has as has_element};
-ghost use Rattle.design.specs.Limits.{greatest_terms, broken};
-ghost use Rattle.direct.specs.Direct.{component_for, direct_list};
+ghost use Rattle.design.specs.Limits.{greatest_shares, greatest_terms, broken};
+ghost use Rattle.direct.specs.Direct.{is_outside, loads, published, direct_list};
 ghost use Rattle.direct.specs.Inside.Expanding.{emitted, inserted_all};
 
 use design::Head;
@@ -15,14 +15,26 @@ use finite::power;
 pub use list::TermList;
 use reasons::Reason;
 
-// The component to which a product goes, by the set of its chosen shares, of three, four and five. Of all shares there is none.
-const OF_THREE: [u8; 8] = [0, 2, 0, 2, 1, 1, 0, 3];
+// The published placements for three, four and five shares.
+const OF_THREE: [u8; 6] = [3, 1, 3, 2, 2, 1];
 
-const OF_FOUR: [u8; 16] = [0, 3, 0, 3, 1, 1, 0, 3, 2, 2, 0, 2, 1, 1, 0, 4];
+const OF_FOUR: [u8; 14] = [4, 1, 4, 2, 2, 1, 4, 3, 3, 1, 3, 2, 2, 1];
 
-const OF_FIVE: [u8; 32] = [
-    0, 4, 0, 4, 1, 1, 0, 4, 2, 2, 0, 2, 1, 1, 0, 4, 3, 3, 0, 3, 1, 1, 0, 3, 2, 2, 0, 2, 1, 1, 0, 5,
+const OF_FIVE: [u8; 30] = [
+    5, 1, 5, 2, 2, 1, 5, 3, 3, 1, 3, 2, 2, 1, 5, 4, 4, 1, 4, 2, 2, 1, 4, 3, 3, 1, 3, 2, 2, 1,
 ];
+
+/// The published placement for s shares. Where s breaks the limits there is none, and the answer has no byte.
+pub fn published_placement(s: usize) -> &'static [u8]
+    ensures { result.now ≡ published s }
+{
+    match s {
+        3 => &OF_THREE,
+        4 => &OF_FOUR,
+        5 => &OF_FIVE,
+        _ => &[],
+    }
+}
 
 // Parts of `gather` and `expand` as functions of their own, so that their goals speak of sets and not of shifts. Each asks for an element of a word, which as
 // a type of its own would be no plainer. Whether the set x has the element i.
@@ -51,42 +63,76 @@ fn without(x: u32, i: usize) -> u32
     x - (1 << i)
 }
 
-/// The rule of the direct sharing of m bits in s shares: the numbers of a head but that of the stages, which the rule does not need.
+// Whether the byte c is, counted from 1, one of s components outside the set of shares.
+#[tactic(auto, unfolding(crate::specs::Direct::is_outside))]
+fn is_outside(s: usize, set: u32, c: u8) -> bool
+    requires { s < 32 }
+    ensures { result ≡ is_outside s set c }
+{
+    let c = usize::from(c);
+    1 <= c && c <= s && !has(set, c - 1)
+}
+
+// Whether the placement loads.
+fn loads(s: usize, placement: &[u8]) -> bool
+    requires { (1 ≤ s) × (s ≤ greatest_shares) }
+    ensures { result ≡ loads s placement.now }
+{
+    let sets = power(s) - 2;
+    placement.len() == sets
+        && (0..sets).all(
+            |i|
+                requires { (s ≤ greatest_shares) × (i < 2 ^ s - 2) × (length placement.now ≡ 2 ^ s - 2) }
+            { is_outside(s, i as u32 + 1, placement[i]) },
+        )
+}
+
+/// The rule of the direct sharing of m bits in s shares: the numbers of a head but that of the stages, which the rule does not need, and the placement.
 #[derive(Clone, Copy)]
-pub struct Rule {
+pub struct Rule<'a> {
     pub m: usize,
     pub s: usize,
+    pub placement: &'a [u8],
     pub ghost limits: { broken m s 1 ≡ false },
 }
 
-impl Rule {
-    /// The rule for m bits and s shares, if they break no limit.
-    pub fn new(m: usize, s: usize) -> Result<Rule, Reason>
-        ensures { MatchResult result (λ r. (r.m ≡ m) × (r.s ≡ s)) (λ e. (e ≡ Reason.LimitBroken) × (broken m s 1 ≡ true)) }
+impl Rule<'_> {
+    ghost use Rattle.direct.specs.Inside.Placing.{Ruled, place_by};
+
+    /// The rule of a head with a placement, if it loads.
+    pub fn new<'a>(head: Head, placement: &'a [u8]) -> Result<Rule<'a>, Reason>
+        ensures { MatchResult result (Ruled head.m head.s placement.now) (λ e. (e ≡ Reason.BadPlacement) × (loads head.s placement.now ≡ false)) }
     {
-        Head::new(m, s, 1)?;
-        Ok(Rule { m, s })
+        if !loads(head.s, placement) {
+            return Err(Reason::BadPlacement);
+        }
+        Ok(Rule {
+            m: head.m,
+            s: head.s,
+            placement,
+        })
     }
 
-    // The component that the rule names for the chosen shares.
+    // The component to which the placement sends a product, by its chosen shares.
     fn component(&self, chosen: u32) -> usize
-        requires { chosen < 2 ^ self.now.s }
-        ensures { result ≡ component_for self.now.s chosen }
+        ensures { result ≡ place_by self.now chosen }
     {
         let chosen = chosen as usize;
-        match self.s {
-            3 => usize::from(OF_THREE[chosen]),
-            4 => usize::from(OF_FOUR[chosen]),
-            _ => usize::from(OF_FIVE[chosen]),
+        if chosen == 0 {
+            return 0;
         }
+        if self.placement.len() < chosen {
+            return self.s;
+        }
+        usize::from(self.placement[chosen - 1]).saturating_sub(1)
     }
 
     // Puts into their places the products of the variables of u, on top of p, for which the shares `chosen` are chosen so far: those that go to the
     // component `to`.
     fn expand(&self, u: u32, to: usize, p: u32, chosen: u32, list: &mut TermList)
-        requires within { (u < 2 ^ self.now.m) × (chosen < 2 ^ self.now.s) }
-        requires room { length list.old + length (emitted self.now.m self.now.s u to self.now.m p chosen) ≤ greatest_terms }
-        ensures { list.new ≡ inserted_all (emitted self.now.m self.now.s u to self.now.m p chosen) list.old }
+        requires within { u < 2 ^ self.now.m }
+        requires room { length list.old + length (emitted self.now.m self.now.s (place_by self.now) u to self.now.m p chosen) ≤ greatest_terms }
+        ensures { list.new ≡ inserted_all (emitted self.now.m self.now.s (place_by self.now) u to self.now.m p chosen) list.old }
     {
         if u == 0 {
             if self.component(chosen) == to {
@@ -105,7 +151,7 @@ impl Rule {
     /// Gathers the list of bit b of the component `to` from the coefficient words.
     pub fn gather(&self, words: &[u8], to: usize, b: usize, list: &mut TermList)
         requires { (b < self.now.m) × (2 ^ self.now.m ≤ length words.now) }
-        ensures { list.new ≡ direct_list self.now.m self.now.s (λ u. get_or words.now u 0) to b }
+        ensures { list.new ≡ direct_list self.now.m self.now.s (place_by self.now) (λ u. get_or words.now u 0) to b }
     {
         list.clear();
         for (u, word) in words[..power(self.m)].iter().enumerate() {

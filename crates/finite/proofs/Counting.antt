@@ -138,16 +138,6 @@ count_none n p h = total_zero n _ (λ i l. bit_not (p i) (h i l))
 pub count_one : (n : ℕ) (p : ℕ → Bool) (k : ℕ) → k < n → p k ≡ true → ((i : ℕ) → i < n → p i ≡ true → i ≡ k) → count n p ≡ 1
 count_one n p k l e u = total_one n _ k l (λ i b ne. bit_not (p i) (λ q. ne (u i b q))) ∙ bit_true e
 
--- one number at most is k
-pub one_at_most : (n k : ℕ) → count n (λ c. eqb k c) ≤ 1
-unfolding total
-one_at_most zero k = zero-le
-one_at_most (suc n) k = at (one_at_most n k) (eqb k n) refl
-  where
-    at : count n (λ c. eqb k c) ≤ 1 → (b : Bool) → eqb k n ≡ b → bit b + count n (λ c. eqb k c) ≤ 1
-    at h true e = omega (arith, count_none n (λ c. eqb k c) (λ i l q. omega (arith, eqb-true k i q, eqb-true k n e)))
-    at h false e = omega arith
-
 -- a count that is not 0 has a place
 pub count_some : (n : ℕ) (p : ℕ → Bool) → 1 ≤ count n p → (k : ℕ) × (k < n) × (p k ≡ true)
 unfolding total

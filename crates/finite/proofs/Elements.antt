@@ -3,7 +3,7 @@ use mathlib.Core.Path.{◌≡◌, refl, sym, ap, ap₂, ◌∙◌}
 use mathlib.Core.Logic.{⊎_elim, ◌≢◌}
 use mathlib.Core.Bool.{Bool, true, false, not, ◌&&◌, ◌||◌}
 use Prim.Native.Nat.{ℕ, zero, suc, ◌+◌, ◌-◌, ◌*◌, ◌/◌, ◌%◌, ◌^◌, ◌<◌}
-use native.Mathlib.Nat.{mod-lt, div-one, mul_comm, pow-suc, div-div-eq-div-mul, mod-eq_of_lt, zero-div, div-lt_iff_lt-mul, div-eq_of_lt}
+use native.Mathlib.Nat.{mod-lt, div-one, mul_comm, pow-suc, div-div-eq-div-mul, mod-eq_of_lt, zero-div, div-lt_iff_lt-mul, div-eq_of_lt, suc-mul, mul_assoc, add-mul}
 use native.Mathlib.Omega.{arith}
 use lib.Arith.{lt-one}
 use lib.Pow.{pow_pos, field, high, low, split, mod-mod-pow, pow-lt, pow-add, shl-shr}
@@ -143,6 +143,31 @@ has_odd k a r l = bit_has ((2 * a + 1) * 2 ^ k + r) k (ap (λ (x : ℕ). x % 2) 
 pub has_even : (k a r : ℕ) → r < 2 ^ k → has (2 * a * 2 ^ k + r) k ≡ false
 unfolding has
 has_even k a r l = let e : 2 * a % 2 ≡ 0 = omega arith in ap (λ (x : ℕ). eqb (x % 2) 1) (high (2 * a) k l) ∙ ap (λ (x : ℕ). eqb x 1) e
+
+-- the set of all elements below s: those above c, c, and those below
+pub has_all : (s c : ℕ) → c < s → has (2 ^ s - 1) c ≡ true
+has_all s c l = ap (λ (x : ℕ). has x c) (parts (2 ^ (s - suc c)) (pow_pos (s - suc c)) whole) ∙ has_odd c (2 ^ (s - suc c) - 1) (2 ^ c - 1) (omega (arith, pow_pos c))
+  where
+    whole : 2 ^ s ≡ 2 ^ (s - suc c) * 2 ^ suc c
+    whole = let e : s ≡ s - suc c + suc c = omega arith in ap (λ (x : ℕ). 2 ^ x) e ∙ pow-add 2 (s - suc c) (suc c)
+
+    less : (b : ℕ) → suc b - 1 ≡ b
+    less b = omega arith
+
+    parts : (a : ℕ) → 0 < a → 2 ^ s ≡ a * 2 ^ suc c → 2 ^ s - 1 ≡ (2 * (a - 1) + 1) * 2 ^ c + (2 ^ c - 1)
+    parts zero h e = absurd (omega arith)
+    parts (suc b) h e =
+        omega (
+          arith,
+          e,
+          pow_pos c,
+          suc-mul b (2 ^ suc c),
+          ap (λ (x : ℕ). b * x) (pow-suc 2 c) ∙ sym (mul_assoc b (2 ^ c) 2),
+          pow-suc 2 c,
+          ap (λ (x : ℕ). (2 * x + 1) * 2 ^ c) (less b),
+          add-mul (2 * b) 1 (2 ^ c),
+          mul_assoc 2 b (2 ^ c),
+        )
 
 -- a set has no element beyond its bits
 pub has_beyond : (x k : ℕ) → x < 2 ^ k → has x k ≡ false

@@ -1,17 +1,17 @@
 -- The tests that iterators make of a list, as tests over the numbers below its length: the i-th element of xs is `get_or xs i d`.
-use mathlib.Core.Path.{◌≡◌, refl, sym, ap, ◌∙◌}
+use mathlib.Core.Path.{◌≡◌, refl, sym, ap, ap₂, ◌∙◌}
 use mathlib.Core.Bool.{Bool, true, false, ◌&&◌, ◌||◌}
 use mathlib.Core.List.{List, [], ◌∷◌}
-use Prim.Native.Nat.{ℕ, zero, suc, ◌≤◌}
+use Prim.Native.Nat.{ℕ, zero, suc, ◌+◌, ◌≤◌}
 use native.Mathlib.Omega.{arith}
 use lib.ListN.{length, get_or, take}
 use lib.Seq.{get_or-take}
-use Rattle.std.specs.List.{list_all, list_any, enumerate_from}
+use Rattle.std.specs.List.{list_all, list_any, enumerate_from, range_with_len}
 use Rattle.std.proofs.Math.Bool.{and_assoc, or_assoc}
 use Rattle.std.proofs.lemmas.List.{length-take-le}
 use Rattle.std.proofs.lemmas.List.FromFn.{length-enumerate_from, get_or-enumerate_from}
 use Rattle.finite.specs.Tests.{all, any}
-use Rattle.finite.proofs.Testing.{any_congr}
+use Rattle.finite.proofs.Testing.{all_congr, any_congr}
 
 and_true : (b : Bool) → b ≡ (b && true)
 and_true true = refl
@@ -54,3 +54,14 @@ pub list_any_places : {A : Type 0} (d : A) (p : ℕ × A → Bool) (xs : List A)
 list_any_places d p xs =
     list_any_is (0, d) p (enumerate_from 0 xs) ∙ ap (λ (k : ℕ). any k (λ i. p (get_or (enumerate_from 0 xs) i (0, d)))) (length-enumerate_from 0 xs)
     ∙ any_congr (length xs) _ _ (λ i l. ap p (get_or-enumerate_from 0 xs i (0, d) l ∙ ap (λ (k : ℕ). (k, get_or xs i d)) (omega arith)))
+
+-- ---- what an iterator asks of all numbers below n, as a test over them
+
+all_from : (n a : ℕ) (p : ℕ → Bool) → list_all p (range_with_len a n) ≡ all n (λ i. p (a + i))
+unfolding all
+all_from zero a p = refl
+all_from (suc n) a p =
+    ap₂ (λ (x : ℕ) (b : Bool). p x && b) (omega arith) (all_from n (a + 1) p ∙ all_congr n _ _ (λ i l. ap p (omega arith))) ∙ sym (all_first n (λ i. p (a + i)))
+
+pub all_range : (n : ℕ) (p : ℕ → Bool) → list_all p (range_with_len 0 n) ≡ all n p
+all_range n p = all_from n 0 p ∙ all_congr n _ _ (λ i l. ap p (omega arith))

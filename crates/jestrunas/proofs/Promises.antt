@@ -2,7 +2,7 @@
 -- definitions that they name: docs/PROMISES.md lists their files. Lists of numbers stand for bytes; `sum` and `xor_below` are XOR. Assumes nothing.
 use mathlib.Core.Path.{◌≡◌}
 use mathlib.Core.Logic.{◌↔◌, ◌⊎◌, ◌≢◌}
-use mathlib.Core.Bool.{true, ◌&&◌}
+use mathlib.Core.Bool.{true, false, ◌&&◌}
 use mathlib.Core.List.{List, [], ◌∷◌, ◌++◌, map}
 use Prim.Native.Nat.{ℕ, ◌+◌, ◌*◌, ◌^◌, ◌≤◌, ◌<◌}
 use lib.Count.{ones}
@@ -11,7 +11,7 @@ use lib.Dec.{eqb}
 use Rattle.reasons.specs.Numbers.{number}
 use Rattle.reasons.specs.declared.Reason.{Reason}
 use Rattle.reasons.proofs.Numbers as numbers
-use Rattle.finite.specs.Tests.{pick, count, tabulate}
+use Rattle.finite.specs.Tests.{pick, count}
 use Rattle.finite.specs.Sums.{xor_below}
 use Rattle.anf.specs.NormalForm.{subset_sum, degree}
 use Rattle.anf.specs.Terms.{value_at, TermList, names, Depends, passing}
@@ -49,13 +49,15 @@ use Rattle.checker.proofs.Exactly as exactly
 use Rattle.checker.proofs.Assurance as assured
 use Rattle.checker.proofs.Trials as counting
 use Rattle.checker.proofs.Bench as checker_bench
-use Rattle.direct.specs.Direct.{is_product, chosen, component_for, direct_stage, direct_sharing, Shareable, Box}
-use Rattle.producer.specs.Producing.{produced, produced_reason, producing, output_after, Succeeds, produced_most}
+use Rattle.direct.specs.Direct.{is_product, chosen, Loads, placed, component_for, published, direct_stage, direct_sharing, Shareable, Box}
+use Rattle.producer.specs.Producing.{produced, produced_reason, producing, output_after, Succeeds, produced_length, produced_most}
 use Rattle.producer.specs.Bench as bench_producer
-use Rattle.producer.proofs.Theorems.{produced_sound, success_exactly, sixteen_exactly, output_file, output_rest, output_refused}
+use Rattle.producer.proofs.Theorems.{produced_sound, success_exactly, twenty_one_exactly, published_placement, sixteen_exactly, output_file, output_rest, output_refused}
 use Rattle.direct.proofs.Shareable as shareable
 use Rattle.direct.proofs.Stage as direct_stage_lem
 use Rattle.direct.proofs.Counts.{products_count}
+use Rattle.direct.proofs.Loading.{placed_outside}
+use Rattle.producer.proofs.Terms as producer_terms
 use Rattle.producer.proofs.Room as producer_room
 use Rattle.direct.proofs.Bench as direct_bench
 use Rattle.producer.proofs.Bench as producer_bench
@@ -197,67 +199,83 @@ products = products_count
 pub product_xy : passing (2 ^ 6) (λ p. is_product 2 3 3 p && eqb (component_for 3 (chosen 2 3 p)) 0) ≡ 12 ∷ 24 ∷ 36 ∷ []
 product_xy = direct_bench.xy_first
 
--- The rule as tables over the sets J, for three, four and five shares; components count from 0, and the set of all shares has none.
-pub rule_three : tabulate (2 ^ 3) (component_for 3) ≡ 0 ∷ 2 ∷ 0 ∷ 2 ∷ 1 ∷ 1 ∷ 0 ∷ 3 ∷ []
-rule_three = direct_bench.rule_three
+-- The published placements: the rule as tables, for three, four and five shares.
+pub published_three : published 3 ≡ 3 ∷ 1 ∷ 3 ∷ 2 ∷ 2 ∷ 1 ∷ []
+published_three = direct_bench.published_three
 
-pub rule_four : tabulate (2 ^ 4) (component_for 4) ≡ 0 ∷ 3 ∷ 0 ∷ 3 ∷ 1 ∷ 1 ∷ 0 ∷ 3 ∷ 2 ∷ 2 ∷ 0 ∷ 2 ∷ 1 ∷ 1 ∷ 0 ∷ 4 ∷ []
-rule_four = direct_bench.rule_four
+pub published_four : published 4 ≡ 4 ∷ 1 ∷ 4 ∷ 2 ∷ 2 ∷ 1 ∷ 4 ∷ 3 ∷ 3 ∷ 1 ∷ 3 ∷ 2 ∷ 2 ∷ 1 ∷ []
+published_four = direct_bench.published_four
 
-pub rule_five : tabulate (2 ^ 5) (component_for 5)
-    ≡ 0 ∷ 4 ∷ 0 ∷ 4 ∷ 1 ∷ 1 ∷ 0 ∷ 4 ∷ 2 ∷ 2 ∷ 0 ∷ 2 ∷ 1 ∷ 1 ∷ 0 ∷ 4 ∷ 3 ∷ 3 ∷ 0 ∷ 3 ∷ 1 ∷ 1 ∷ 0 ∷ 3 ∷ 2 ∷ 2 ∷ 0 ∷ 2 ∷ 1 ∷ 1 ∷ 0 ∷ 5 ∷ []
-rule_five = direct_bench.rule_five
+pub published_five : published 5
+    ≡ 5 ∷ 1 ∷ 5 ∷ 2 ∷ 2 ∷ 1 ∷ 5 ∷ 3 ∷ 3 ∷ 1 ∷ 3 ∷ 2 ∷ 2 ∷ 1 ∷ 5 ∷ 4 ∷ 4 ∷ 1 ∷ 4 ∷ 2 ∷ 2 ∷ 1 ∷ 4 ∷ 3 ∷ 3 ∷ 1 ∷ 3 ∷ 2 ∷ 2 ∷ 1 ∷ []
+published_five = direct_bench.published_five
 
 -- ---- Producing
 
--- 9. For a permutation table within the limits, of degree below s: what is produced reads as the direct sharing, whose one stage is correct and non-complete.
-pub produced_reads : (m s : ℕ) (t : List ℕ) → Box m s t → degree m (entry t) < s
-    → (reading (produced m s t) ≡ means (direct_sharing m s t))
-    × Correct m s (component m (direct_stage m s t).lists) t
-    × NonComplete m s (component m (direct_stage m s t).lists)
-produced_reads m s t b low = let p = produced_sound m s t b low in (p.reads, p.correctly, p.non_completely)
+-- 9. For a permutation table within the limits, of degree below s, and any placement that loads: what is produced reads as the direct sharing by this placement,
+-- whose one stage is correct and non-complete.
+pub produced_reads : (m s : ℕ) (t l : List ℕ) → Box m s t → Loads s l → degree m (entry t) < s
+    → (reading (produced m s t l) ≡ means (direct_sharing m s (placed s l) t))
+    × Correct m s (component m (direct_stage m s (placed s l) t).lists) t
+    × NonComplete m s (component m (direct_stage m s (placed s l) t).lists)
+produced_reads m s t l b a low = let p = produced_sound m s t l b a low in (p.reads, p.correctly, p.non_completely)
 
 -- It is so in the usual, stricter sense: component c ignores share c.
-pub produced_usual : (m s : ℕ) (t : List ℕ) (c : ℕ) → c < s → Ignores m s c (component m (direct_stage m s t).lists c)
-produced_usual = direct_stage_lem.direct_ignores
+pub produced_usual : (m s : ℕ) (t l : List ℕ) → Loads s l → (c : ℕ) → c < s → Ignores m s c (component m (direct_stage m s (placed s l) t).lists c)
+produced_usual m s t l a = direct_stage_lem.direct_ignores m s (placed s l) (placed_outside s l a) t
 
 -- So with enough workspace its verdict is 0 or 14.
-pub produced_judged : (m s n : ℕ) (t : List ℕ) → Box m s t → degree m (entry t) < s → workspace_for m s ≤ n
-    → (verdict (produced m s t) n ≡ answer 0 1 0) ⊎ (verdict (produced m s t) n ≡ answer 14 1 0)
+pub produced_judged : (m s n : ℕ) (t l : List ℕ) → Box m s t → Loads s l → degree m (entry t) < s → workspace_for m s ≤ n
+    → (verdict (produced m s t l) n ≡ answer 0 1 0) ⊎ (verdict (produced m s t l) n ≡ answer 14 1 0)
 produced_judged = produced_verdict
 
--- 0 is answered exactly for a permutation table within the limits, of degree below s, whose file fits the output.
-pub produced_exactly : (m s : ℕ) (t : List ℕ) (room : ℕ) → (produced_reason m s t room ≡ 0) ↔ Succeeds m s t room
+-- 0 is answered exactly for a permutation table within the limits, of degree below s, and a placement that loads, whose file fits the output.
+pub produced_exactly : (m s : ℕ) (t l : List ℕ) (room : ℕ) → (produced_reason m s t l room ≡ 0) ↔ Succeeds m s t l room
 produced_exactly = success_exactly
+
+-- For a permutation table within the limits 21 is answered exactly when the placement does not load.
+pub placement_exactly : (m s : ℕ) (t l : List ℕ) (room : ℕ) → Box m s t → (produced_reason m s t l room ≡ 21) ↔ (Loads s l → ⊥)
+placement_exactly = twenty_one_exactly
+
+-- The published placement loads, and gives the file of the sharing by the published rule, byte for byte.
+pub old_placement : (m s : ℕ) (t : List ℕ) → broken m s 1 ≡ false
+    → Loads s (published s) × (produced m s t (published s) ≡ encode (direct_sharing m s (component_for s) t))
+old_placement = published_placement
 
 -- A table of m bits can be shared so with s shares, by some component functions, exactly when its degree is below s.
 pub shareable_exactly : (m s : ℕ) (t : List ℕ) → 1 ≤ s → TableFits m t → Shareable m s t ↔ degree m (entry t) < s
 shareable_exactly = shareable.shareable_exactly
 
 -- 16 is answered exactly when no component functions at all, of a file or not, share the table correctly and non-completely with s shares.
-pub refused_exactly : (m s : ℕ) (t : List ℕ) (room : ℕ) → Box m s t → (produced_reason m s t room ≡ 16) ↔ (Shareable m s t → ⊥)
+pub refused_exactly : (m s : ℕ) (t l : List ℕ) (room : ℕ) → Box m s t → Loads s l → (produced_reason m s t l room ≡ 16) ↔ (Shareable m s t → ⊥)
 refused_exactly = sixteen_exactly
 
--- On success the output starts with the file, which depends on m, s and the table alone; the bytes past the file are untouched; and on a refusal all are.
-pub produced_file : (m s : ℕ) (t out : List ℕ) → produced_reason m s t (length out) ≡ 0
-    → take (length (produced m s t)) (output_after m s t out) ≡ produced m s t
+-- On success the output starts with the file, which depends on m, s, the table and the placement alone; the bytes past the file are untouched; and on a refusal
+-- all are.
+pub produced_file : (m s : ℕ) (t l out : List ℕ) → produced_reason m s t l (length out) ≡ 0
+    → take (length (produced m s t l)) (output_after m s t l out) ≡ produced m s t l
 produced_file = output_file
 
-pub produced_rest : (m s : ℕ) (t out : List ℕ) → produced_reason m s t (length out) ≡ 0
-    → drop (length (produced m s t)) (output_after m s t out) ≡ drop (length (produced m s t)) out
+pub produced_rest : (m s : ℕ) (t l out : List ℕ) → produced_reason m s t l (length out) ≡ 0
+    → drop (length (produced m s t l)) (output_after m s t l out) ≡ drop (length (produced m s t l)) out
 produced_rest = output_rest
 
-pub refused_output : (m s : ℕ) (t out : List ℕ) → produced_reason m s t (length out) ≢ 0 → output_after m s t out ≡ out
+pub refused_output : (m s : ℕ) (t l out : List ℕ) → produced_reason m s t l (length out) ≢ 0 → output_after m s t l out ≡ out
 refused_output = output_refused
 
+-- How long the file is, the same whatever the placement is.
+pub produced_size : (m s : ℕ) (t l : List ℕ) → Box m s t → Loads s l → degree m (entry t) < s
+    → length (produced m s t l) ≡ produced_length m s (subset_sum m (entry t))
+produced_size m s t l b a low = producer_terms.file_length m s t l b.table a low
+
 -- How much output is always enough: for m and s, and for all of them, which is the bound at m 4 and s 5.
-pub produced_most_lem : (m s : ℕ) (t : List ℕ) → Box m s t → degree m (entry t) < s → length (produced m s t) ≤ produced_most m s
+pub produced_most_lem : (m s : ℕ) (t l : List ℕ) → Box m s t → Loads s l → degree m (entry t) < s → length (produced m s t l) ≤ produced_most m s
 produced_most_lem = producer_room.produced_most_lem
 
 pub most_met : produced_most 4 5 ≡ 20867
 most_met = producer_room.most_met
 
-pub output_enough : (m s : ℕ) (t : List ℕ) (room : ℕ) → 20867 ≤ room → produced_reason m s t room ≢ 17
+pub output_enough : (m s : ℕ) (t l : List ℕ) (room : ℕ) → 20867 ≤ room → produced_reason m s t l room ≢ 17
 output_enough = producer_room.room_enough
 
 -- ---- Chaining two boxes
@@ -316,9 +334,10 @@ pub record Bench : Type 0 where
   pub forecasts : map (λ r. forecast r.file) bench_checker.forecasts ≡ map (λ r. r.answer) bench_checker.forecasts
   pub meetings : map (λ r. read_meetings 1 3 r.stages r.secret 0 0 r.sharing) bench_checker.meeting_rows ≡ map (λ r. r.times) bench_checker.meeting_rows
   pub runs : map (λ r. running r.file r.shares) bench_checker.runs ≡ map (λ r. r.answer) bench_checker.runs
-  pub productions : map (λ r. producing r.m r.s r.table (length r.output)) bench_producer.rows ≡ map (λ r. r.answer) bench_producer.rows
-  pub lists : (direct_stage 1 3 (1 ∷ 0 ∷ [])).lists ≡ (0 ∷ 2 ∷ []) ∷ (4 ∷ []) ∷ (1 ∷ []) ∷ []
-  pub outputs : map (λ r. output_after r.m r.s r.table r.output) bench_producer.rows ≡ map (λ r. r.after) bench_producer.rows
+  pub productions : map (λ r. producing r.m r.s r.table r.placement (length r.output)) bench_producer.rows ≡ map (λ r. r.answer) bench_producer.rows
+  pub lists : (direct_stage 1 3 (component_for 3) (1 ∷ 0 ∷ [])).lists ≡ (0 ∷ 2 ∷ []) ∷ (4 ∷ []) ∷ (1 ∷ []) ∷ []
+  pub placed_lists : (direct_stage 1 3 (placed 3 (2 ∷ 3 ∷ 3 ∷ 1 ∷ 2 ∷ 1 ∷ [])) (1 ∷ 0 ∷ [])).lists ≡ (0 ∷ 4 ∷ []) ∷ (1 ∷ []) ∷ (2 ∷ []) ∷ []
+  pub outputs : map (λ r. output_after r.m r.s r.table r.placement r.output) bench_producer.rows ≡ map (λ r. r.after) bench_producer.rows
   pub joinings : map (λ r. joining r.first r.second (length r.output)) bench_joiner.rows ≡ map (λ r. r.answer) bench_joiner.rows
   pub joined_outputs : map (λ r. joined_after r.first r.second r.output) bench_joiner.rows ≡ map (λ r. r.after) bench_joiner.rows
 
@@ -334,6 +353,7 @@ bench = record {
   runs = checker_bench.bench_runs;
   productions = producer_bench.bench_answers;
   lists = direct_bench.bench_lists;
+  placed_lists = direct_bench.bench_placed;
   outputs = producer_bench.bench_outputs;
   joinings = joiner_bench.bench_answers;
   joined_outputs = joiner_bench.bench_outputs;

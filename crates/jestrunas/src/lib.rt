@@ -60,12 +60,18 @@ pub fn jestrunas_run(file: &[u8], shares: Shares) -> Ran
     Ran::from(threshold::run(file, shares.share))
 }
 
-// Writes the direct sharing of a table.
-pub fn jestrunas_produce(m: usize, s: usize, table: &[u8], output: &mut [u8]) -> Produced
-    ensures value { result ≡ producing m s table.now (length output.old) }
-    ensures output_after { output.new ≡ output_after m s table.now output.old }
+// Writes the direct sharing of a table by a placement.
+pub fn jestrunas_produce(
+    m: usize,
+    s: usize,
+    table: &[u8],
+    placement: &[u8],
+    output: &mut [u8],
+) -> Produced
+    ensures value { result ≡ producing m s table.now placement.now (length output.old) }
+    ensures output_after { output.new ≡ output_after m s table.now placement.now output.old }
 {
-    Produced::from(producer::produce(m, s, table, output))
+    Produced::from(producer::produce(m, s, table, placement, output))
 }
 
 // Joins two design files into one.

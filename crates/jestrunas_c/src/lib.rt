@@ -49,13 +49,19 @@ pub extern "C" fn jestrunas_run(file: &[u8], shares: Shares) -> Ran
     jestrunas::jestrunas_run(file, shares)
 }
 
-// Writes the direct sharing of a table.
+// Writes the direct sharing of a table by a placement.
 #[unsafe(no_mangle)]
-pub extern "C" fn jestrunas_produce(m: usize, s: usize, table: &[u8], output: &mut [u8]) -> Produced
-    ensures value { result ≡ producing m s table.now (length output.old) }
-    ensures output_after { output.new ≡ output_after m s table.now output.old }
+pub extern "C" fn jestrunas_produce(
+    m: usize,
+    s: usize,
+    table: &[u8],
+    placement: &[u8],
+    output: &mut [u8],
+) -> Produced
+    ensures value { result ≡ producing m s table.now placement.now (length output.old) }
+    ensures output_after { output.new ≡ output_after m s table.now placement.now output.old }
 {
-    jestrunas::jestrunas_produce(m, s, table, output)
+    jestrunas::jestrunas_produce(m, s, table, placement, output)
 }
 
 // Joins two design files into one.

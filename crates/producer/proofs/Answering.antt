@@ -1,26 +1,26 @@
 -- What producing answers and leaves, one law for each way out.
-use mathlib.Core.Path.{◌≡◌, sym, ap, ap₂, ◌∙◌}
-use mathlib.Core.Bool.{Bool, true, false, not, ◌&&◌}
+use mathlib.Core.Path.{◌≡◌, refl, sym, ap, ap₂, ◌∙◌, subst}
+use mathlib.Core.Bool.{true, false, not}
 use mathlib.Core.List.{List, [], ◌∷◌, ◌++◌}
-use Prim.Native.Nat.{ℕ, ◌*◌, ◌/◌, ◌%◌, ◌^◌, ◌≤◌, ◌<◌}
+use Prim.Native.Nat.{ℕ, ◌^◌, ◌≤◌, ◌<◌}
 use native.Mathlib.Omega.{arith}
 use lib.Pow.{pow_mono}
 use lib.Dec.{eqb, ltb, leb}
 use lib.ListN.{length, get_or, take, drop}
 use lib.Seq.{take_at, get_or-take}
 use borrow.Author.Tests.{eq-eqb, ne_eqb, lt-ltb, le-ltb, le-leb, lt-leb}
-use Rattle.finite.specs.Sets.{has}
 use Rattle.finite.specs.Maps.{repeats}
 use Rattle.finite.specs.Faults.{first_fault}
 use Rattle.finite.proofs.Faults.{fault_here, fault_past, fault_none}
-use Rattle.finite.proofs.Testing.{any_congr, tabulate_congr, tabulate_length, tabulate_at, pick_true}
+use Rattle.finite.proofs.Testing.{tabulate_length, tabulate_at, pick_true}
 use Rattle.anf.specs.NormalForm.{subset_sum, degree}
 use Rattle.anf.specs.Tables.{entries_below, entry}
 use Rattle.anf.specs.Inside.Words.{words_degree}
 use Rattle.anf.specs.Transform.{transform_after, transformed}
-use Rattle.anf.proofs.Passing.{passing_congr}
 use Rattle.anf.proofs.Answers.{input_answer, transformed_degree}
+use Rattle.anf.proofs.Tables.{entries_at}
 use Rattle.design.specs.Limits.{broken}
+use Rattle.design.specs.Design.{TableFits}
 use Rattle.std.specs.Prelude.{Ok, Err}
 use Rattle.reasons.specs.Numbers.{number}
 use Rattle.reasons.specs.declared.Reason.{Reason}
@@ -28,57 +28,63 @@ use Rattle.records.specs.Writing.{produced_of}
 use Rattle.records.specs.Inside.Overwriting.{overwrite}
 use Rattle.design.proofs.Limits.{bounds, head_number}
 use Rattle.records.proofs.Producing as rules
-use Rattle.direct.specs.Direct.{is_product, chosen, component_for, stands, direct_list, direct_lists, direct_stage, direct_sharing}
-use Rattle.producer.specs.Producing.{produced, produced_reason, producing, output_after}
+use Rattle.direct.specs.Direct.{loads, Loads, placed, direct_lists, direct_stage, direct_sharing}
+use Rattle.direct.proofs.Stage.{lists_congr}
+use Rattle.direct.proofs.Loading.{loaded}
+use Rattle.producer.specs.Producing.{produced, produced_reason, producing, output_after, produced_length}
 use Rattle.producer.specs.Inside.Filing.{one_stage_file}
+use Rattle.producer.proofs.Terms.{length_congr, file_length}
 use Rattle.records.specs.declared.Produced.{Produced}
 
 -- ---- what is known after the tests
 
--- every test before that of the degree has passed
-pub record TableTested (m s : ℕ) (t : List ℕ) (room : ℕ) : Type 0 where
+-- every test before that of the placement has passed
+pub record TableTested (m s : ℕ) (t l : List ℕ) (room : ℕ) : Type 0 where
   pub limits : broken m s 1 ≡ false
   pub size : length t ≡ 2 ^ m
   pub below : entries_below t (2 ^ m) ≡ true
-  pub passed : produced_reason m s t room ≡ first_fault ((leb s (degree m (entry t)), 16) ∷ (ltb room (length (produced m s t)), 17) ∷ []) 0
+  pub passed : produced_reason m s t l room
+      ≡ first_fault ((not (loads s l), 21) ∷ (leb s (degree m (entry t)), 16) ∷ (ltb room (length (produced m s t l)), 17) ∷ []) 0
 
 -- every test but the last has passed, and words are the coefficient words of the table
-pub record DegreeTested (m s : ℕ) (t words : List ℕ) (room : ℕ) : Type 0 where
+pub record DegreeTested (m s : ℕ) (t l words : List ℕ) (room : ℕ) : Type 0 where
   pub limits : broken m s 1 ≡ false
-  pub size : length t ≡ 2 ^ m
-  pub passed : produced_reason m s t room ≡ first_fault ((ltb room (length (produced m s t)), 17) ∷ []) 0
+  pub table : TableFits m t
+  pub placement : Loads s l
+  pub low : degree m (entry t) < s
+  pub passed : produced_reason m s t l room ≡ first_fault ((ltb room (length (produced m s t l)), 17) ∷ []) 0
   pub words_all : 2 ^ m ≤ length words
   pub coefficients : (u : ℕ) → u < 2 ^ m → get_or words u 0 ≡ subset_sum m (entry t) u
 
 -- ---- the answer from the reason
 
 -- r is answered, and the output is `after`
-pub record Answered (m s : ℕ) (t out : List ℕ) (r : Produced) (after : List ℕ) : Type 0 where
-  pub kept : rules.Answered (produced_reason m s t (length out)) (produced m s t) out r after
+pub record Answered (m s : ℕ) (t l out : List ℕ) (r : Produced) (after : List ℕ) : Type 0 where
+  pub kept : rules.Answered (produced_reason m s t l (length out)) (produced m s t l) out r after
 
 -- the same as a contract has it
-pub answered : {m s : ℕ} {t out : List ℕ} {r : Produced} {after : List ℕ} → Answered m s t out r after
-    → record { value : r ≡ producing m s t (length out); output_after : after ≡ output_after m s t out }
+pub answered : {m s : ℕ} {t l out : List ℕ} {r : Produced} {after : List ℕ} → Answered m s t l out r after
+    → record { value : r ≡ producing m s t l (length out); output_after : after ≡ output_after m s t l out }
 unfolding producing output_after
 answered a = record { value = a.kept.answer; output_after = a.kept.output }
 
-module _ (m s : ℕ) (t out : List ℕ) where
-  pub refuses : (k : Reason) → produced_reason m s t (length out) ≡ number k → Answered m s t out (produced_of (Err k)) out
-  refuses k e = record { kept = rules.refused _ (produced m s t) out k e }
+module _ (m s : ℕ) (t l out : List ℕ) where
+  pub refuses : (k : Reason) → produced_reason m s t l (length out) ≡ number k → Answered m s t l out (produced_of (Err k)) out
+  refuses k e = record { kept = rules.refused _ (produced m s t l) out k e }
 
-  pub succeeds : (size : ℕ) (after : List ℕ) → size ≡ length (produced m s t) → produced_reason m s t (length out) ≡ 0 → after ≡ overwrite out 0 (produced m s t)
-      → Answered m s t out (produced_of (Ok size)) after
-  succeeds size after es e w = record { kept = rules.written _ (produced m s t) out size after es e w }
+  pub succeeds : (size : ℕ) (after : List ℕ) → size ≡ length (produced m s t l) → produced_reason m s t l (length out) ≡ 0 → after ≡ overwrite out 0 (produced m s t l)
+      → Answered m s t l out (produced_of (Ok size)) after
+  succeeds size after es e w = record { kept = rules.written _ (produced m s t l) out size after es e w }
 
 -- ---- the reasons in their order
 
-module _ (m s : ℕ) (t : List ℕ) (room : ℕ) where
-  pub reason_head : broken m s 1 ≡ true → produced_reason m s t room ≡ 4
+module _ (m s : ℕ) (t l : List ℕ) (room : ℕ) where
+  pub reason_head : broken m s 1 ≡ true → produced_reason m s t l room ≡ 4
   unfolding produced_reason
   reason_head b = fault_here _ _ _ 0 b ∙ head_number m s 1 ∙ pick_true (broken m s 1) 4 0 b
 
   module _ (b : broken m s 1 ≡ false) where
-    pub reason_size : (length t ≡ 2 ^ m → ⊥) → produced_reason m s t room ≡ 3
+    pub reason_size : (length t ≡ 2 ^ m → ⊥) → produced_reason m s t l room ≡ 3
     unfolding produced_reason
     reason_size z = fault_past _ _ _ 0 b ∙ fault_here _ 3 _ 0 (ap not (ne_eqb _ _ z))
 
@@ -86,16 +92,16 @@ module _ (m s : ℕ) (t : List ℕ) (room : ℕ) where
       size_right : not (eqb (length t) (2 ^ m)) ≡ false
       size_right = ap not (eq-eqb _ _ z)
 
-      pub reason_entry : entries_below t (2 ^ m) ≡ false → produced_reason m s t room ≡ 5
+      pub reason_entry : entries_below t (2 ^ m) ≡ false → produced_reason m s t l room ≡ 5
       unfolding produced_reason
       reason_entry e = fault_past _ _ _ 0 b ∙ fault_past _ 3 _ 0 size_right ∙ fault_here _ 5 _ 0 (ap not e)
 
       module _ (e : entries_below t (2 ^ m) ≡ true) where
-        pub reason_repeat : repeats (2 ^ m) (entry t) ≡ true → produced_reason m s t room ≡ 8
+        pub reason_repeat : repeats (2 ^ m) (entry t) ≡ true → produced_reason m s t l room ≡ 8
         unfolding produced_reason
         reason_repeat r = fault_past _ _ _ 0 b ∙ fault_past _ 3 _ 0 size_right ∙ fault_past _ 5 _ 0 (ap not e) ∙ fault_here _ 8 _ 0 r
 
-        pub table_tested : repeats (2 ^ m) (entry t) ≡ false → TableTested m s t room
+        pub table_tested : repeats (2 ^ m) (entry t) ≡ false → TableTested m s t l room
         unfolding produced_reason
         table_tested r = record {
           limits = b;
@@ -104,12 +110,16 @@ module _ (m s : ℕ) (t : List ℕ) (room : ℕ) where
           passed = fault_past _ _ _ 0 b ∙ fault_past _ 3 _ 0 size_right ∙ fault_past _ 5 _ 0 (ap not e) ∙ fault_past _ 8 _ 0 r;
         }
 
-  module _ (p : TableTested m s t room) where
-    pub reason_degree : s ≤ degree m (entry t) → produced_reason m s t room ≡ 16
-    reason_degree d = p.passed ∙ fault_here _ 16 _ 0 (le-leb _ _ d)
+  module _ (p : TableTested m s t l room) where
+    pub reason_placement : loads s l ≡ false → produced_reason m s t l room ≡ 21
+    reason_placement f = p.passed ∙ fault_here _ 21 _ 0 (ap not f)
 
-    pub reason_last : degree m (entry t) < s → produced_reason m s t room ≡ first_fault ((ltb room (length (produced m s t)), 17) ∷ []) 0
-    reason_last d = p.passed ∙ fault_past _ 16 _ 0 (lt-leb _ _ d)
+    module _ (a : loads s l ≡ true) where
+      pub reason_degree : s ≤ degree m (entry t) → produced_reason m s t l room ≡ 16
+      reason_degree d = p.passed ∙ fault_past _ 21 _ 0 (ap not a) ∙ fault_here _ 16 _ 0 (le-leb _ _ d)
+
+      pub reason_last : degree m (entry t) < s → produced_reason m s t l room ≡ first_fault ((ltb room (length (produced m s t l)), 17) ∷ []) 0
+      reason_last d = p.passed ∙ fault_past _ 21 _ 0 (ap not a) ∙ fault_past _ 16 _ 0 (lt-leb _ _ d)
 
 -- ---- the coefficient words
 
@@ -130,7 +140,7 @@ module _ (m s : ℕ) (t out : List ℕ) (b : broken m s 1 ≡ false) (z : length
       sym (get_or-take (2 ^ m) (transform_after m t out) u 0 l) ∙ ap (λ (x : List ℕ). get_or x u 0) words_first
       ∙ tabulate_at (2 ^ m) (subset_sum m (λ v. get_or t v 0)) u 0 l
 
-module _ (m s : ℕ) (t : List ℕ) (room : ℕ) (p : TableTested m s t room) (out words : List ℕ) (w : words ≡ transform_after m t out) (size : length out ≡ 64) where
+module _ (m s : ℕ) (t l : List ℕ) (room : ℕ) (p : TableTested m s t l room) (out words : List ℕ) (w : words ≡ transform_after m t out) (size : length out ≡ 64) where
   words_room : 2 ^ m ≤ length out
   words_room = omega (arith, pow_mono (bounds m s 1 p.limits).m_high)
 
@@ -139,30 +149,29 @@ module _ (m s : ℕ) (t : List ℕ) (room : ℕ) (p : TableTested m s t room) (o
   found_degree n e =
       ap₂ (λ (x : ℕ) (y : List ℕ). words_degree (take x y)) e w ∙ words_degree_is m s t out p.limits p.size p.below words_room
 
-  pub found_ready : degree m (entry t) < s → length words ≡ length out → DegreeTested m s t words room
-  found_ready d l = record {
+  pub found_ready : loads s l ≡ true → degree m (entry t) < s → length words ≡ length out → DegreeTested m s t l words room
+  found_ready a d e = record {
     limits = p.limits;
-    size = p.size;
-    passed = reason_last m s t room p d;
+    table = record { size = p.size; below = λ x h. entries_at t (2 ^ m) p.below x (subst (λ (n : ℕ). x < n) (sym p.size) h) };
+    placement = loaded s l a;
+    low = d;
+    passed = reason_last m s t l room p a d;
     words_all = omega (arith, words_room);
     coefficients = λ u k. ap (λ (x : List ℕ). get_or x u 0) w ∙ words_at m s t out p.limits p.size p.below words_room u k;
   }
 
 -- ---- the file
 
-lists_congr : (m s : ℕ) (f g : ℕ → ℕ) → ((u : ℕ) → u < 2 ^ m → f u ≡ g u) → direct_lists m s f ≡ direct_lists m s g
-unfolding direct_lists direct_list stands
-lists_congr m s f g h =
-    tabulate_congr (m * s) _ _ (λ i l. passing_congr (2 ^ (m * s)) _ _ (λ p k.
-    ap (λ (x : Bool). x && eqb (component_for s (chosen m s p)) (i / m)) (any_congr (2 ^ m) _ _ (λ u j. ap (λ (w : ℕ). is_product m s u p && has w (i % m)) (h u j)))))
-
-module _ (m s : ℕ) (t words : List ℕ) (room : ℕ) (r : DegreeTested m s t words room) where
-  pub file_is : one_stage_file m s t (direct_lists m s (λ u. get_or words u 0)) ≡ produced m s t
+module _ (m s : ℕ) (t l words : List ℕ) (room : ℕ) (r : DegreeTested m s t l words room) where
+  pub file_is : one_stage_file m s t (direct_lists m s (placed s l) (λ u. get_or words u 0)) ≡ produced m s t l
   unfolding one_stage_file produced direct_sharing direct_stage
-  file_is = ap (one_stage_file m s t) (lists_congr m s (λ u. get_or words u 0) (subset_sum m (entry t)) r.coefficients)
+  file_is = ap (one_stage_file m s t) (lists_congr m s (placed s l) (placed s l) (λ J h. refl) (λ u. get_or words u 0) (subset_sum m (entry t)) r.coefficients)
 
-  pub short : room < length (produced m s t) → produced_reason m s t room ≡ 17
-  short l = r.passed ∙ fault_here _ 17 _ 0 (lt-ltb _ _ l)
+  pub length_is : produced_length m s (λ u. get_or words u 0) ≡ length (produced m s t l)
+  length_is = length_congr m s (λ u. get_or words u 0) (subset_sum m (entry t)) r.coefficients ∙ sym (file_length m s t l r.table r.placement r.low)
 
-  pub enough : length (produced m s t) ≤ room → produced_reason m s t room ≡ 0
-  enough l = r.passed ∙ fault_past _ 17 _ 0 (le-ltb _ _ l) ∙ fault_none 0
+  pub short : room < length (produced m s t l) → produced_reason m s t l room ≡ 17
+  short h = r.passed ∙ fault_here _ 17 _ 0 (lt-ltb _ _ h)
+
+  pub enough : length (produced m s t l) ≤ room → produced_reason m s t l room ≡ 0
+  enough h = r.passed ∙ fault_past _ 17 _ 0 (le-ltb _ _ h) ∙ fault_none 0

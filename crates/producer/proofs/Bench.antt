@@ -18,7 +18,7 @@ use Rattle.records.specs.Records.{join, a_record}
 use Rattle.design.specs.Encode.{stage_bytes, encode}
 use Rattle.records.specs.Writing.{writing_answer, writing_after}
 use Rattle.threshold.specs.Sharing.{share}
-use Rattle.direct.specs.Direct.{is_product, chosen, component_for, stands, direct_list, direct_lists, direct_stage, direct_sharing}
+use Rattle.direct.specs.Direct.{is_product, chosen, is_outside, loads, placed, component_for, published, stands, direct_list, direct_lists, direct_stage, direct_sharing}
 use Rattle.producer.specs.Producing.{produced, produced_reason, producing, output_after}
 use Rattle.producer.specs.Bench.{rows}
 
@@ -27,15 +27,20 @@ unfoldable below : ℕ
 unfolding all any first total tabulate xor_below subset subset_sum largest degree passing entries_below repeats met_before first_fault broken term_bytes join a_record stage_bytes encode share
 below = 0
 
+-- those of the direct sharing
+unfoldable placing : ℕ
+unfolding has is_product chosen is_outside loads placed component_for published stands direct_list direct_lists direct_stage direct_sharing
+placing = 0
+
 -- and all of them
 unfoldable pub computing : ℕ
-unfolding below writing_answer writing_after has is_product chosen component_for stands direct_list direct_lists direct_stage direct_sharing produced produced_reason producing output_after ones
+unfolding below placing writing_answer writing_after produced produced_reason producing output_after ones
 computing = 0
 
-pub bench_answers : map (λ r. producing r.m r.s r.table (length r.output)) rows ≡ map (λ r. r.answer) rows
+pub bench_answers : map (λ r. producing r.m r.s r.table r.placement (length r.output)) rows ≡ map (λ r. r.answer) rows
 unfolding computing
 bench_answers = refl
 
-pub bench_outputs : map (λ r. output_after r.m r.s r.table r.output) rows ≡ map (λ r. r.after) rows
+pub bench_outputs : map (λ r. output_after r.m r.s r.table r.placement r.output) rows ≡ map (λ r. r.after) rows
 unfolding computing
 bench_outputs = refl

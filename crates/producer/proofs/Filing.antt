@@ -1,30 +1,33 @@
--- The steps of writing a file over plain values, each premise as the code has it: w is the writer at first, w₁, w₂, .. after each step; i is the turn.
-use mathlib.Core.Path.{◌≡◌, sym, ap, subst}
+-- The steps of counting a file's bytes and of writing it over plain values, each premise as the code has it: of writing, w is the writer at first, w₁, w₂, ..
+-- after each step.
+use mathlib.Core.Path.{◌≡◌, refl, sym, ap, ◌∙◌, subst}
 use mathlib.Core.Bool.{false}
 use mathlib.Core.List.{List, [], ◌∷◌, ◌++◌}
 use Prim.Native.Nat.{ℕ, ◌+◌, ◌*◌, ◌%◌, ◌^◌, ◌≤◌, ◌<◌}
 use native.Mathlib.Nat.{mod-lt}
+use native.Mathlib.Numerals.{add-one}
 use native.Mathlib.Omega.{arith}
+use Rattle.std.proofs.Math.Nat.{pow-le-pow_left, pow-le-pow_right, mul-le-mul}
 use lib.Pow.{pow_mono}
-use lib.ListN.{length}
-use mir.Syntax.{w64}
+use lib.Count.{ones, ones-le}
+use lib.ListN.{length, get_or, take, length-take}
+use lib.Seq.{get_or-take}
+use mir.Syntax.{w32, w64}
 use mir.Val.{Fits}
-use Rattle.design.specs.Limits.{greatest_terms, broken}
+use Rattle.finite.specs.Tests.{total}
+use Rattle.design.specs.Limits.{greatest_width, greatest_shares, greatest_terms, broken}
 use Rattle.records.specs.Records.{a_record, end_record}
 use Rattle.records.specs.Inside.Overwriting.{list_records}
 use Rattle.records.specs.Inside.Writes.{Writes}
 use Rattle.records.specs.declared.writer.Writer.{Writer}
 use Rattle.design.proofs.Limits.{bounds}
 use Rattle.records.proofs.Overwriting.{record_length}
-use Rattle.records.proofs.ListRecords.{records_none}
 use Rattle.records.proofs.Writes.{room_left, writes_then}
-use Rattle.producer.specs.Inside.Filing.{table_records, one_stage_file, list_most, lists_most}
+use Rattle.producer.specs.Producing.{terms_count, produced_length}
+use Rattle.producer.specs.Inside.Filing.{table_records, one_stage_file, term_most, terms_most}
 use Rattle.producer.proofs.Writing.{tables_length, file_records, file_length}
 
--- ---- the lists: count is how many terms there are in list i
-
-pub none_counted : 0 ≡ length (list_records [])
-none_counted = sym (ap length (records_none []))
+-- ---- the lists
 
 module _ (m s : ℕ) (limits : broken m s 1 ≡ false) where
   pub bits_fit : Fits w64 (m * s)
@@ -36,20 +39,8 @@ module _ (m s : ℕ) (limits : broken m s 1 ≡ false) where
   pub bit_within : (i : ℕ) → i % m < m
   bit_within i = mod-lt i some_bit
 
-  pub size_fits : (i size count r : ℕ) → i < m * s → size ≤ i * list_most → count ≤ greatest_terms → r ≡ 4 + 4 * count → Fits w64 (size + r)
-  size_fits i size count r h b l e = record { fits = omega (arith, (bounds m s 1 limits).bits) }
-
-  pub size_bound : (size i : ℕ) → size ≤ i * list_most → i ≤ m * s → size ≤ lists_most
-  size_bound size i b h = omega (arith, (bounds m s 1 limits).bits)
-
-pub terms_fit : (count : ℕ) → count ≤ greatest_terms → Fits w64 (4 * count)
-terms_fit count l = record { fits = omega arith }
-
 pub short_list : (l slice : List ℕ) → slice ≡ l → length l ≤ greatest_terms → 4 * length slice < 65536
 short_list l slice e h = omega (arith, ap length e)
-
-pub bound_more : (size count r i : ℕ) → size ≤ i * list_most → count ≤ greatest_terms → r ≡ 4 + 4 * count → size + r ≤ (i + 1) * list_most
-bound_more size count r i b l e = omega arith
 
 -- ---- the records before the lists: the head's record is as long whatever its numbers are
 
@@ -107,12 +98,71 @@ module _ (m s : ℕ) (t : List ℕ) (ls : List (List ℕ)) (w : Writer) (r : w.a
           subst (Writes w w₃) (sym (file_records m s t ls))
           (writes_then w w₁ _ g₁ w₃ (list_records ls ++ end_record) (writes_then w₁ w₂ _ g₂ w₃ end_record g₃ (omega (arith, rest_room))) (omega arith))
 
--- ---- its length: a is what the head takes, b what a table takes, k what the lists take, e what the end takes
+-- ---- `terms`: w are the coefficient words, of which the first k are gone over, and n is how many terms are counted before word u
 
-pub file_size_lem : (m s : ℕ) (t : List ℕ) (ls : List (List ℕ)) (a b k e : ℕ) → a ≡ 4 + 3 → b ≡ 4 + length t → e ≡ 4 + 0 → k ≡ length (list_records ls)
-    → a + 2 * b + k + e ≡ length (one_stage_file m s t ls)
-file_size_lem m s t ls a b k e ea eb ee ek =
-    omega (arith, file_length m s t ls, tables_length m s t, record_length 1 (m ∷ s ∷ 1 ∷ []), record_length 2 t, record_length 4 [])
+pub record Counted (s : ℕ) (w : List ℕ) (u n : ℕ) : Type 0 where
+  pub so_far : n ≡ total u (λ v. s ^ ones v * ones (get_or w v 0))
+  pub most : n ≤ u * term_most
+
+module _ (m s : ℕ) (limits : broken m s 1 ≡ false) (w : List ℕ) where
+  pub width_shifts : m < 64
+  width_shifts = omega (arith, (bounds m s 1 limits).m_high)
+
+  pub none_counted : Counted s w 0 0
+  unfolding total
+  none_counted = record { so_far = refl; most = omega arith }
+
+  module _ (k : ℕ) (z : k ≡ 2 ^ m) (u n : ℕ) (g : Counted s w u n) where
+    module _ (i : u < length (take k w)) where
+      u_low : u < k
+      u_low = omega (arith, length-take k w)
+
+      pub term_fits : Fits w32 u
+      term_fits = record { fits = omega (arith, u_low, pow_mono (bounds m s 1 limits).m_high) }
+
+      products_most : s ^ ones u ≤ greatest_shares ^ greatest_width
+      products_most =
+          omega (
+            arith,
+            pow-le-pow_left (bounds m s 1 limits).s_high (ones u),
+            pow-le-pow_right {n = greatest_shares} (omega arith) {i = ones u} {j = greatest_width} (omega (arith, ones-le m u (omega (arith, u_low)), (bounds m s 1 limits).m_high)),
+          )
+
+      pub products_fit : s ^ ones u < 18446744073709551616
+      products_fit = omega (arith, products_most)
+
+      module _ (b : get_or (take k w) u 0 < 256) (p : ℕ) (e : p ≡ s ^ ones u) where
+        abbrev pub bits : ℕ
+        bits = ones (get_or (take k w) u 0)
+
+        word_most : p * bits ≤ term_most
+        word_most = mul-le-mul {n₂ = greatest_shares ^ greatest_width} {m₂ = 8} (omega (arith, products_most)) (ones-le 8 (get_or (take k w) u 0) b)
+
+        pub word_fits : Fits w64 (p * bits)
+        word_fits = record { fits = omega (arith, word_most) }
+
+        pub sum_fits : Fits w64 (n + p * bits)
+        sum_fits = record { fits = omega (arith, word_most, g.most, u_low, pow_mono (bounds m s 1 limits).m_high) }
+
+        pub counted_more : Counted s w (u + 1) (n + p * bits)
+        unfolding total
+        counted_more = record {
+          so_far = rw add-one (omega (arith, g.so_far, ap (λ (x : ℕ). x * bits) e, ap (λ (x : ℕ). s ^ ones u * ones x) (get_or-take k w u 0 u_low)));
+          most = omega (arith, word_most, g.most);
+        }
+
+    module _ (r : 2 ^ m ≤ length w) (a : u ≤ length (take k w)) (b : length (take k w) ≤ u) where
+      all_gone : u ≡ 2 ^ m
+      all_gone = omega (arith, length-take k w)
+
+      pub all_counted : (words : ℕ → ℕ) → words ≡ (λ v. get_or w v 0) → n ≡ terms_count m s words
+      unfolding terms_count
+      all_counted words ws = rw ws (g.so_far ∙ ap (λ (x : ℕ). total x (λ v. s ^ ones v * ones (get_or w v 0))) all_gone)
+
+      pub all_within : n ≤ terms_most
+      all_within = omega (arith, g.most, all_gone, pow_mono (bounds m s 1 limits).m_high)
+
+-- ---- `size`: k is how many terms there are, a what the head takes, b what a table takes, e what the end takes
 
 module _ (m s : ℕ) (limits : broken m s 1 ≡ false) (t : List ℕ) (h : length t ≡ 2 ^ m) where
   pub table_body : length t < 65536
@@ -125,8 +175,20 @@ module _ (m s : ℕ) (limits : broken m s 1 ≡ false) (t : List ℕ) (h : lengt
     pub tables_sum : Fits w64 (a + 2 * b)
     tables_sum = record { fits = omega (arith, table_body) }
 
-    pub with_lists : (k : ℕ) → k ≤ lists_most → Fits w64 (a + 2 * b + k)
-    with_lists k l = record { fits = omega (arith, table_body) }
+    module _ (k : ℕ) (l : k ≤ terms_most) where
+      pub lists_sum : Fits w64 (m * s + k)
+      lists_sum = record { fits = omega (arith, (bounds m s 1 limits).bits) }
 
-    pub with_end : (k e : ℕ) → k ≤ lists_most → e ≡ 4 + 0 → Fits w64 (a + 2 * b + k + e)
-    with_end k e l ee = record { fits = omega (arith, table_body) }
+      pub lists_fit : Fits w64 (4 * (m * s + k))
+      lists_fit = record { fits = omega (arith, (bounds m s 1 limits).bits) }
+
+      pub with_lists : Fits w64 (a + 2 * b + 4 * (m * s + k))
+      with_lists = record { fits = omega (arith, table_body, (bounds m s 1 limits).bits) }
+
+      module _ (e : ℕ) (ee : e ≡ 4 + 0) where
+        pub with_end : Fits w64 (a + 2 * b + 4 * (m * s + k) + e)
+        with_end = record { fits = omega (arith, table_body, (bounds m s 1 limits).bits) }
+
+        pub size_all : (words : ℕ → ℕ) → k ≡ terms_count m s words → a + 2 * b + 4 * (m * s + k) + e ≡ produced_length m s words
+        unfolding produced_length
+        size_all words ek = omega arith

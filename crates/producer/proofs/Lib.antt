@@ -1,4 +1,5 @@
 -- Laws of producing.
+pub mod Terms
 pub mod Theorems
 pub mod Room
 pub mod Writing

@@ -1,5 +1,5 @@
--- The records of the lists of the direct sharing, one behind the other: how long they are, and that each that is written makes one more of them. And the
--- file of one stage: its records, and how long it is.
+-- The records of the lists of the direct sharing, one behind the other: each that is written makes one more of them. And the file of one stage: its
+-- records, and how long it is.
 use mathlib.Core.Path.{◌≡◌, sym, ap, ◌∙◌, subst}
 use mathlib.Core.List.{List, [], ◌∷◌, ◌++◌, append_assoc, append-nil}
 use Prim.Native.Nat.{ℕ, ◌+◌, ◌*◌, ◌/◌, ◌%◌, ◌≤◌, ◌<◌}
@@ -18,63 +18,46 @@ use Rattle.producer.specs.Inside.Filing.{table_records, one_stage_file}
 
 -- ---- the lists of the direct sharing
 
-module _ (m s : ℕ) (words : ℕ → ℕ) where
-  direct_count : length (direct_lists m s words) ≡ m * s
+module _ (m s : ℕ) (place words : ℕ → ℕ) where
+  direct_count : length (direct_lists m s place words) ≡ m * s
   unfolding direct_lists
-  direct_count = tabulate_length (m * s) (λ i. direct_list m s words (i / m) (i % m))
+  direct_count = tabulate_length (m * s) (λ i. direct_list m s place words (i / m) (i % m))
 
-  direct_at : (i : ℕ) → i < m * s → get_or (direct_lists m s words) i [] ≡ direct_list m s words (i / m) (i % m)
+  direct_at : (i : ℕ) → i < m * s → get_or (direct_lists m s place words) i [] ≡ direct_list m s place words (i / m) (i % m)
   unfolding direct_lists
-  direct_at i h = tabulate_at (m * s) (λ i. direct_list m s words (i / m) (i % m)) i [] h
+  direct_at i h = tabulate_at (m * s) (λ i. direct_list m s place words (i / m) (i % m)) i [] h
 
-  all_taken : (i : ℕ) → i ≤ m * s → m * s ≤ i → list_records (take i (direct_lists m s words)) ≡ list_records (direct_lists m s words)
+  all_taken : (i : ℕ) → i ≤ m * s → m * s ≤ i → list_records (take i (direct_lists m s place words)) ≡ list_records (direct_lists m s place words)
   all_taken i a b =
-      let e : i ≡ length (direct_lists m s words) = omega (arith, direct_count) in
-      ap (λ (k : ℕ). list_records (take k (direct_lists m s words))) e ∙ records_all (direct_lists m s words)
-
-  -- how many bytes the first i lists take
-  module _ (i size : ℕ) (e : size ≡ length (list_records (take i (direct_lists m s words)))) where
-    pub size_more : i < m * s → (l : List ℕ) (count : ℕ) → l ≡ direct_list m s words (i / m) (i % m) → count ≡ length l → (r : ℕ) → r ≡ 4 + 4 * count
-        → size + r ≡ length (list_records (take (i + 1) (direct_lists m s words)))
-    size_more h l count le ce r re =
-        omega (
-          arith,
-          ap length le,
-          ap length (records_more (direct_lists m s words) i (omega (arith, direct_count))),
-          length-append (list_records (take i (direct_lists m s words))) (list_record (get_or (direct_lists m s words) i [])),
-          list_record_length (get_or (direct_lists m s words) i []),
-          ap length (direct_at i h),
-        )
-
-    pub size_all : i ≤ m * s → m * s ≤ i → size ≡ length (list_records (direct_lists m s words))
-    size_all a b = e ∙ ap length (all_taken i a b)
+      let e : i ≡ length (direct_lists m s place words) = omega (arith, direct_count) in
+      ap (λ (k : ℕ). list_records (take k (direct_lists m s place words))) e ∙ records_all (direct_lists m s place words)
 
   -- l is list i, given as a slice
-  module _ (i : ℕ) (h : i < m * s) (l slice : List ℕ) (e : l ≡ direct_list m s words (i / m) (i % m)) (q : slice ≡ l) where
-    slice_is : slice ≡ get_or (direct_lists m s words) i []
+  module _ (i : ℕ) (h : i < m * s) (l slice : List ℕ) (e : l ≡ direct_list m s place words (i / m) (i % m)) (q : slice ≡ l) where
+    slice_is : slice ≡ get_or (direct_lists m s place words) i []
     slice_is = q ∙ e ∙ sym (direct_at i h)
 
     -- w is the writer at first, with room for all lists, w₁ after the first i, w₂ after one more
-    module _ (w w₁ : Writer) (r : w.at + length (list_records (direct_lists m s words)) ≤ length w.out.now)
-        (g : Writes w w₁ (list_records (take i (direct_lists m s words)))) where
-      within : length (list_records (take i (direct_lists m s words))) + length (list_record slice) ≤ length (list_records (direct_lists m s words))
-      within = rw slice_is (records_within (direct_lists m s words) i (omega (arith, direct_count)))
+    module _ (w w₁ : Writer) (r : w.at + length (list_records (direct_lists m s place words)) ≤ length w.out.now)
+        (g : Writes w w₁ (list_records (take i (direct_lists m s place words)))) where
+      within : length (list_records (take i (direct_lists m s place words))) + length (list_record slice) ≤ length (list_records (direct_lists m s place words))
+      within = rw slice_is (records_within (direct_lists m s place words) i (omega (arith, direct_count)))
 
       pub list_room : w₁.at + 4 + 4 * length slice ≤ length w₁.out.now
       list_room = omega (arith, room_left w w₁ _ g (length (list_record slice)) (omega (arith, within)), list_record_length slice)
 
-      pub lists_more : (w₂ : Writer) → Writes w₁ w₂ (list_record slice) → Writes w w₂ (list_records (take (i + 1) (direct_lists m s words)))
+      pub lists_more : (w₂ : Writer) → Writes w₁ w₂ (list_record slice) → Writes w w₂ (list_records (take (i + 1) (direct_lists m s place words)))
       lists_more w₂ g₂ =
           subst (Writes w w₂)
-          (ap (λ (x : List ℕ). list_records (take i (direct_lists m s words)) ++ list_record x) slice_is
-          ∙ sym (records_more (direct_lists m s words) i (omega (arith, direct_count))))
+          (ap (λ (x : List ℕ). list_records (take i (direct_lists m s place words)) ++ list_record x) slice_is
+          ∙ sym (records_more (direct_lists m s place words) i (omega (arith, direct_count))))
           (writes_then w w₁ _ g w₂ _ g₂ (omega arith))
 
-  pub no_list : (w : Writer) → Writes w w (list_records (take 0 (direct_lists m s words)))
-  no_list w = subst (Writes w w) (sym (records_none (direct_lists m s words))) (nothing_written w)
+  pub no_list : (w : Writer) → Writes w w (list_records (take 0 (direct_lists m s place words)))
+  no_list w = subst (Writes w w) (sym (records_none (direct_lists m s place words))) (nothing_written w)
 
-  pub lists_all : (w w₁ : Writer) (i : ℕ) → i ≤ m * s → m * s ≤ i → Writes w w₁ (list_records (take i (direct_lists m s words)))
-      → Writes w w₁ (list_records (direct_lists m s words))
+  pub lists_all : (w w₁ : Writer) (i : ℕ) → i ≤ m * s → m * s ≤ i → Writes w w₁ (list_records (take i (direct_lists m s place words)))
+      → Writes w w₁ (list_records (direct_lists m s place words))
   lists_all w w₁ i a b g = subst (Writes w w₁) (all_taken i a b) g
 
 -- ---- the file

@@ -1,13 +1,14 @@
 // The file of a direct sharing: what it is made of, its length, and writing it.
-ghost use Rattle.std.specs.Prelude.{◌≡◌, ◌+◌, ◌^◌, ◌≤◌, length};
+ghost use Rattle.std.specs.Prelude.{◌≡◌, ◌+◌, ◌^◌, ◌≤◌, length, get_or};
 
 use direct::{Rule, TermList};
+use finite::power;
 use records::{Kind, Writer, record_size};
 
 // What the file is made of: the rule, the table of the box, and the coefficient words of the box.
 #[derive(Clone, Copy)]
 pub struct Parts<'a> {
-    pub rule: Rule,
+    pub rule: Rule<'a>,
     pub table: &'a [u8],
     pub words: &'a [u8],
     pub ghost sizes: { (length table.now ≡ 2 ^ rule.m) × (2 ^ rule.m ≤ length words.now) },
@@ -16,28 +17,28 @@ pub struct Parts<'a> {
 impl Parts<'_> {
     ghost use Rattle.records.specs.Inside.Overwriting.{list_records};
     ghost use Rattle.records.specs.Inside.Writes.{Writes};
-    ghost use Rattle.producer.specs.Inside.Filing.{lists_most};
+    ghost use Rattle.producer.specs.Producing.{terms_count, produced_length};
+    ghost use Rattle.producer.specs.Inside.Filing.{terms_most};
     ghost use Rattle.producer.specs.Inside.Made.{tables_of, lists_of, made};
 
-    // How many bytes the lists take.
-    fn lists_size(&self, list: &mut TermList) -> usize
-        ensures { (result ≡ length (list_records (lists_of self.now))) × (result ≤ lists_most) }
+    // How many terms the lists have together: s^d for each term of d variables in each bit that has it, whatever the placement is.
+    fn terms(&self) -> usize
+        ensures { (result ≡ terms_count self.now.rule.m self.now.rule.s (λ u. get_or self.now.words.now u 0)) × (result ≤ terms_most) }
     {
-        let mut size = 0;
-        for i in 0..self.rule.m * self.rule.s {
-            self.rule
-                .gather(self.words, i / self.rule.m, i % self.rule.m, list);
-            size += record_size(4 * list.len());
+        let mut terms = 0;
+        for (u, word) in self.words[..power(self.rule.m)].iter().enumerate() {
+            terms += self.rule.s.pow((u as u32).count_ones()) * word.count_ones() as usize;
         }
-        size
+        terms
     }
 
-    // How many bytes the file takes: the head, S and G, the lists, the end.
-    pub fn size(&self, list: &mut TermList) -> usize
-        ensures { result ≡ length (made self.now) }
+    // How many bytes the file takes: the head, S and G, the lists, of 4 bytes each and 4 a term, the end.
+    pub fn size(&self) -> usize
+        ensures { result ≡ produced_length self.now.rule.m self.now.rule.s (λ u. get_or self.now.words.now u 0) }
     {
         let tables = record_size(3) + 2 * record_size(self.table.len());
-        tables + self.lists_size(list) + record_size(0)
+        let lists = 4 * (self.rule.m * self.rule.s + self.terms());
+        tables + lists + record_size(0)
     }
 
     // Writes the records before the lists.
@@ -50,26 +51,26 @@ impl Parts<'_> {
         writer.record(Kind::Table, self.table);
     }
 
-    // Writes the records of the lists. The loop is that of `lists_size` with another step: one function for both, with the step as a closure, is no plainer,
-    // since each step needs a bound that the lists before it decide, and a clause cannot say that of what a closure keeps.
-    fn put_lists(&self, list: &mut TermList, writer: &mut Writer<'_>)
+    // Writes the records of the lists.
+    fn put_lists(&self, writer: &mut Writer<'_>)
         requires { writer.old.at + length (list_records (lists_of self.now)) ≤ length writer.old.out.now }
         ensures { Writes writer.old writer.new (list_records (lists_of self.now)) }
     {
+        let mut list = TermList::new();
         for i in 0..self.rule.m * self.rule.s {
             self.rule
-                .gather(self.words, i / self.rule.m, i % self.rule.m, list);
+                .gather(self.words, i / self.rule.m, i % self.rule.m, &mut list);
             writer.list(list.as_slice());
         }
     }
 
     // Writes the file.
-    pub fn put(&self, list: &mut TermList, writer: &mut Writer<'_>)
+    pub fn put(&self, writer: &mut Writer<'_>)
         requires { writer.old.at + length (made self.now) ≤ length writer.old.out.now }
         ensures { Writes writer.old writer.new (made self.now) }
     {
         self.put_tables(writer);
-        self.put_lists(list, writer);
+        self.put_lists(writer);
         writer.end();
     }
 }

@@ -8,46 +8,58 @@ ghost use Rattle.records.specs.Writing.{produced_of};
 ghost use Rattle.producer.specs.Producing.{producing, output_after};
 
 use anf::{repeats, transform, words_degree};
-use design::GREATEST_POINTS;
-use direct::{Rule, TermList};
+use design::{GREATEST_POINTS, Head};
+use direct::Rule;
+pub use direct::published_placement;
 use file::Parts;
-use finite::power;
 use reasons::Reason;
 use records::Writer;
 
-// The direct sharing by the rule, with the words in fixed memory. The file is known to fit before a byte is written.
-fn produce_by(rule: &Rule, table: &[u8], output: &mut [u8]) -> Result<usize, Reason>
-    ensures value { produced_of result ≡ producing rule.now.m rule.now.s table.now (length output.old) }
-    ensures output_after { output.new ≡ output_after rule.now.m rule.now.s table.now output.old }
+// The direct sharing for a head, whose number of stages is not looked at, with the words in fixed memory. The file is known to fit before a byte is written.
+fn produce_for(
+    head: Head,
+    table: &[u8],
+    placement: &[u8],
+    output: &mut [u8],
+) -> Result<usize, Reason>
+    ensures value { produced_of result ≡ producing head.m head.s table.now placement.now (length output.old) }
+    ensures output_after { output.new ≡ output_after head.m head.s table.now placement.now output.old }
 {
     let mut words = [0u8; GREATEST_POINTS];
-    transform(rule.m, table, &mut words)?;
+    transform(head.m, table, &mut words)?;
     if repeats(table) {
         return Err(Reason::BoxRepeats);
     }
-    if rule.s <= words_degree(&words[..power(rule.m)]) {
+    let degree = words_degree(&words[..head.points()]);
+    let rule = Rule::new(head, placement)?;
+    if head.s <= degree {
         return Err(Reason::DegreeTooHigh);
     }
     let parts = Parts {
-        rule: *rule,
+        rule,
         table,
         words: &words,
     };
-    let mut list = TermList::new();
-    let size = parts.size(&mut list);
+    let size = parts.size();
     if output.len() < size {
         return Err(Reason::OutputTooShort);
     }
-    parts.put(&mut list, &mut Writer::new(output));
+    parts.put(&mut Writer::new(output));
     Ok(size)
 }
 
-/// Writes the direct sharing of a permutation table of 2^m entries of m bits, with s shares, as a design file, and answers its length. By m, s, a
-/// table and an output, as C hands them over.
-pub fn produce(m: usize, s: usize, table: &[u8], output: &mut [u8]) -> Result<usize, Reason>
-    ensures value { produced_of result ≡ producing m s table.now (length output.old) }
-    ensures output_after { output.new ≡ output_after m s table.now output.old }
+/// Writes the direct sharing of a permutation table of 2^m entries of m bits, with s shares, by a placement, as a design file, and answers its length. By m, s,
+/// a table, a placement and an output, as C hands them over.
+pub fn produce(
+    m: usize,
+    s: usize,
+    table: &[u8],
+    placement: &[u8],
+    output: &mut [u8],
+) -> Result<usize, Reason>
+    ensures value { produced_of result ≡ producing m s table.now placement.now (length output.old) }
+    ensures output_after { output.new ≡ output_after m s table.now placement.now output.old }
 {
-    let rule = Rule::new(m, s)?;
-    produce_by(&rule, table, output)
+    let head = Head::new(m, s, 1)?;
+    produce_for(head, table, placement, output)
 }

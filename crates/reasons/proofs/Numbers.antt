@@ -6,7 +6,9 @@ use lib.Dec.{eqb}
 use borrow.Author.Tests.{eqb-false}
 use Rattle.reasons.specs.Numbers.{number}
 use Rattle.reasons.specs.declared.Reason.{Reason}
-use Rattle.reasons.specs.declared.Reason.TheVariants.{CutShort, WrongKind, WrongLength, LimitBroken, EntryTooLarge, BadTerm, BytesFollow, BoxRepeats, WorkspaceTooSmall, ChainIsNotBox, NotCorrect, NotNonComplete, NotUniform, BadShare, DegreeTooHigh, OutputTooShort, InputTooLong, SharesDiffer, TooManyStages}
+use Rattle.reasons.specs.declared.Reason.TheVariants.{CutShort, WrongKind, WrongLength, LimitBroken, EntryTooLarge, BadTerm, BytesFollow, BoxRepeats}
+use Rattle.reasons.specs.declared.Reason.TheVariants.{WorkspaceTooSmall, ChainIsNotBox, NotCorrect, NotNonComplete, NotUniform, BadShare, DegreeTooHigh}
+use Rattle.reasons.specs.declared.Reason.TheVariants.{OutputTooShort, InputTooLong, SharesDiffer, TooManyStages, BadPlacement}
 
 neither : (r : Reason) → (eqb (number r) 0 ≡ false) × (eqb (number r) 11 ≡ false)
 neither CutShort = (refl, refl)
@@ -28,6 +30,7 @@ neither OutputTooShort = (refl, refl)
 neither InputTooLong = (refl, refl)
 neither SharesDiffer = (refl, refl)
 neither TooManyStages = (refl, refl)
+neither BadPlacement = (refl, refl)
 
 pub number_some : (r : Reason) → number r ≢ 0
 number_some r = eqb-false (number r) 0 (neither r).0

@@ -1,7 +1,9 @@
 -- "Verdict", the table of reasons: the number of each. Success is 0; 11 is retired, and not given again.
 use Rattle.std.specs.Prelude.{ℕ, Result, Ok, Err}
 use Rattle.reasons.specs.declared.Reason.{Reason}
-use Rattle.reasons.specs.declared.Reason.TheVariants.{CutShort, WrongKind, WrongLength, LimitBroken, EntryTooLarge, BadTerm, BytesFollow, BoxRepeats, WorkspaceTooSmall, ChainIsNotBox, NotCorrect, NotNonComplete, NotUniform, BadShare, DegreeTooHigh, OutputTooShort, InputTooLong, SharesDiffer, TooManyStages}
+use Rattle.reasons.specs.declared.Reason.TheVariants.{CutShort, WrongKind, WrongLength, LimitBroken, EntryTooLarge, BadTerm, BytesFollow, BoxRepeats}
+use Rattle.reasons.specs.declared.Reason.TheVariants.{WorkspaceTooSmall, ChainIsNotBox, NotCorrect, NotNonComplete, NotUniform, BadShare, DegreeTooHigh}
+use Rattle.reasons.specs.declared.Reason.TheVariants.{OutputTooShort, InputTooLong, SharesDiffer, TooManyStages, BadPlacement}
 
 abbrev pub number : Reason → ℕ
 number CutShort = 1
@@ -23,6 +25,7 @@ number OutputTooShort = 17
 number InputTooLong = 18
 number SharesDiffer = 19
 number TooManyStages = 20
+number BadPlacement = 21
 
 -- the number of an outcome: 0 of success
 abbrev pub reason_of : {T : Type 0} → Result T Reason → ℕ

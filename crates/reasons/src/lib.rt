@@ -27,6 +27,7 @@ pub enum Reason {
     InputTooLong = 18,
     SharesDiffer = 19,
     TooManyStages = 20,
+    BadPlacement = 21,
 }
 
 impl Reason {
@@ -68,6 +69,9 @@ impl fmt::Display for Reason {
             Reason::InputTooLong => "the input exceeds 32,768 bytes",
             Reason::SharesDiffer => "the widths or the share counts of the two designs differ",
             Reason::TooManyStages => "the two designs have more than four stages together",
+            Reason::BadPlacement => {
+                "the placement has not 2^s - 2 bytes, or a byte is not a component outside its set"
+            }
         })
     }
 }

@@ -108,6 +108,14 @@ table_of n l = entries_of n (nat_lt 4 (width_of l)) (table_part l)
 abbrev pub after_request : ℕ → List ℕ → List ℕ
 after_request n l = after_spaces (after_entries n (nat_lt 4 (width_of l)) (table_part l))
 
+-- the placement in front, of at most n bytes of a digit each
+abbrev pub placement_of : ℕ → List ℕ → List ℕ
+placement_of n l = entries_of n false l
+
+-- what follows it
+abbrev pub after_placement : ℕ → List ℕ → List ℕ
+after_placement n l = after_spaces (after_entries n false l)
+
 -- the bytes of a line `file HEX`, at most n
 abbrev pub file_of : ℕ → List ℕ → List ℕ
 file_of n l = entries_of n true (after_spaces (after_word l))

@@ -1,5 +1,5 @@
 // Requests in text, for the programs: a line `m s TABLE`, each entry of the table one hexadecimal digit,
-// or two digits where m is above 4; and a line `file HEX`.
+// or two digits where m is above 4, with a placement behind it or none, each byte one digit; and a line `file HEX`.
 #![tactic(auto)]
 
 ghost use Rattle.std.specs.Prelude.{◌≡◌, ◌<◌, ◌≤◌, ◌++◌, IfSome, List, ℕ, length, drop, is_some, if◌then◌else◌};
@@ -19,6 +19,8 @@ ghost use Rattle.text.specs.Lines.{
   shares_of,
   table_of,
   after_request,
+  placement_of,
+  after_placement,
   file_of,
   after_file,
 };
@@ -174,6 +176,18 @@ impl<'a> Line<'a> {
         let count = self.entries(4 < m, table);
         self.skip_spaces();
         Request { m, s, count }
+    }
+
+    /// Takes the placement in front, a digit a byte, and the spaces behind it; its bytes go to `placement`. Answers how many they are, 0 where none is named.
+    pub fn placement(&mut self, placement: &mut [u8]) -> usize
+        ensures count { result ≡ length (placement_of (length placement.old) self.old) }
+        ensures placement_after { placement.new ≡ placement_of (length placement.old) self.old ++ drop result placement.old }
+        ensures fits { result ≤ length placement.new }
+        ensures rest { self.new ≡ after_placement (length placement.old) self.old }
+    {
+        let count = self.entries(false, placement);
+        self.skip_spaces();
+        count
     }
 
     /// Takes the bytes of a line `file HEX`, and the spaces behind them; the bytes go to `out`. Answers how many they are.

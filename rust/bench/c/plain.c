@@ -255,12 +255,14 @@ typedef struct {
     size_t count;
 } target;
 
-/* The component of a set of shares: the lowest c outside it whose next one is in it. */
-static size_t component_of(size_t set, size_t s) {
-    if (!set) return 0;
-    for (size_t c = 0; c < s; c++)
-        if (!(set >> c & 1) && set >> ((c + 1) % s) & 1) return c;
-    return s;
+/* Whether a placement has a component outside it for each set of shares but the empty one and that of all. */
+static int loads(const uint8_t *placement, size_t placement_len, size_t s) {
+    if (placement_len != ((size_t)1 << s) - 2) return 0;
+    for (size_t set = 1; set <= placement_len; set++) {
+        size_t c = placement[set - 1];
+        if (c < 1 || c > s || set >> (c - 1) & 1) return 0;
+    }
+    return 1;
 }
 
 static void expand(target *t, const uint8_t *component, uint32_t left, uint32_t product, size_t set) {
@@ -276,7 +278,8 @@ static void expand(target *t, const uint8_t *component, uint32_t left, uint32_t 
         expand(t, component, left & (left - 1), product | (uint32_t)1 << (c * t->m + v), set | (size_t)1 << c);
 }
 
-jestrunas_produced_t NAME(produce)(size_t m, size_t s, const uint8_t *table, size_t table_len, uint8_t *out, size_t out_len) {
+jestrunas_produced_t NAME(produce)(size_t m, size_t s, const uint8_t *table, size_t table_len, const uint8_t *placement,
+                                   size_t placement_len, uint8_t *out, size_t out_len) {
     uint8_t words[64], component[32];
     jestrunas_produced_t a = {0, 0};
     if (m > 6 || s > 5 || !limits_hold(m, s, 1)) { a.reason = 4; return a; }
@@ -284,6 +287,7 @@ jestrunas_produced_t NAME(produce)(size_t m, size_t s, const uint8_t *table, siz
     if (table_len != size) { a.reason = 3; return a; }
     if (!all_below(table, size, size)) { a.reason = 5; return a; }
     if (repeats(table, size)) { a.reason = 8; return a; }
+    if (!loads(placement, placement_len, s)) { a.reason = 21; return a; }
     memcpy(words, table, size);
     transform_in_place(words, size);
     size_t length = 11 + 2 * (4 + size) + 4 * m * s;
@@ -294,7 +298,8 @@ jestrunas_produced_t NAME(produce)(size_t m, size_t s, const uint8_t *table, siz
         length += products * (size_t)__builtin_popcount(words[u]);
     }
     if (out_len < length) { a.reason = 17; return a; }
-    for (size_t set = 0; set < (size_t)1 << s; set++) component[set] = (uint8_t)component_of(set, s);
+    component[0] = 0;
+    for (size_t set = 1; set <= placement_len; set++) component[set] = placement[set - 1] - 1;
     put16(out, 3);
     put16(out + 2, 1);
     out[4] = (uint8_t)m;

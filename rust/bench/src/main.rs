@@ -6,7 +6,7 @@
 
 use jestrunas::native::{Forecast, Judged, Produced, Run, Shares, Verdict};
 use reference::samples::{chain, cubic, d, full, six_bits, twenty_share_bits, PRESENT_F, PRESENT_G};
-use reference::{encode, Design};
+use reference::{encode, published_placement, Design};
 use std::hint::black_box;
 use std::time::Duration;
 
@@ -14,7 +14,7 @@ type Read = unsafe extern "C" fn(*const u8, usize) -> Verdict;
 type AskForecast = unsafe extern "C" fn(*const u8, usize) -> Forecast;
 type Judge = unsafe extern "C" fn(*const u8, usize, *mut u8, usize) -> Judged;
 type RunChain = unsafe extern "C" fn(*const u8, usize, Shares) -> Run;
-type Produce = unsafe extern "C" fn(usize, usize, *const u8, usize, *mut u8, usize) -> Produced;
+type Produce = unsafe extern "C" fn(usize, usize, *const u8, usize, *const u8, usize, *mut u8, usize) -> Produced;
 type Join = unsafe extern "C" fn(*const u8, usize, *const u8, usize, *mut u8, usize) -> Produced;
 type Transform = unsafe extern "C" fn(usize, *const u8, usize, *mut u8, usize) -> usize;
 
@@ -50,6 +50,8 @@ macro_rules! operations {
                     s: usize,
                     table: *const u8,
                     table_len: usize,
+                    placement: *const u8,
+                    placement_len: usize,
                     output: *mut u8,
                     output_len: usize,
                 ) -> Produced;
@@ -203,9 +205,20 @@ fn main() {
             assert_eq!(black_box(answer).reason, 0);
         });
         if let Some(table) = table {
+            let placement = published_placement(design.s);
             row(&what, "produce", &all, rounds, |o| {
-                let answer =
-                    unsafe { (o.produce)(design.m, design.s, table.as_ptr(), table.len(), output.as_mut_ptr(), output.len()) };
+                let answer = unsafe {
+                    (o.produce)(
+                        design.m,
+                        design.s,
+                        table.as_ptr(),
+                        table.len(),
+                        placement.as_ptr(),
+                        placement.len(),
+                        output.as_mut_ptr(),
+                        output.len(),
+                    )
+                };
                 assert_eq!(black_box(answer).length, file.len());
             });
             assert_eq!(output[..file.len()], file);

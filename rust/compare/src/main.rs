@@ -14,14 +14,14 @@ use compare::make::{self, D, SIZES};
 use compare::random::Random;
 use jestrunas::{native, PRODUCED_MAX, WORKSPACE_MAX};
 use reference::samples::{chain, one_bit};
-use reference::{encode, repeats, Answer, Design, Shares};
+use reference::{encode, loads, published_placement, repeats, Answer, Design, Shares};
 use std::fmt::Debug;
 use std::time::Instant;
 
 /// Counts of the reasons that an operation answered.
 #[derive(Default)]
 struct Counts {
-    by_reason: [usize; 21],
+    by_reason: [usize; 22],
 }
 
 impl Counts {
@@ -35,7 +35,7 @@ impl Counts {
 
     /// Answers whether each reason that is due was answered, and no other.
     fn say(&self, what: &str, due: &[usize]) -> bool {
-        let answered: Vec<usize> = (0..21).filter(|&r| self.by_reason[r] > 0).collect();
+        let answered: Vec<usize> = (0..22).filter(|&r| self.by_reason[r] > 0).collect();
         let counts: Vec<String> = answered.iter().map(|&r| format!("{r}:{}", self.by_reason[r])).collect();
         println!("{what}: {} calls, by reason {}", self.total(), counts.join(" "));
         if answered != due {
@@ -205,6 +205,10 @@ struct Comparison {
     ignored: Ignored,
     runs: Counts,
     produced: Counts,
+    /// Calls of producing by a placement that does not load: the reason that each has by the published one.
+    unplaced: Counts,
+    /// Verdicts on what was produced otherwise than by the published placement.
+    placed: Counts,
     transforms: Counts,
     twice: usize,
     /// Calls of joining where the first file does not read, where only the second does not, and where both read.
@@ -235,6 +239,8 @@ impl Comparison {
             ignored: Ignored::default(),
             runs: Counts::default(),
             produced: Counts::default(),
+            unplaced: Counts::default(),
+            placed: Counts::default(),
             transforms: Counts::default(),
             twice: 0,
             joins: Default::default(),
@@ -261,7 +267,7 @@ impl Comparison {
         self.file.put(file, at_end);
     }
 
-    /// Lends a second file in the same way.
+    /// Lends a second file or a placement in the same way.
     fn lend_second(&mut self, file: &[u8]) {
         let at_end = self.sides.map_or_else(|| !self.random.once_in(4), |[file, _]| file);
         self.second.put(file, at_end);
@@ -349,8 +355,8 @@ impl Comparison {
         self.runs.add(due.0);
     }
 
-    /// Everything that is asked about a file.
-    fn compare_file(&mut self, file: &[u8]) {
+    /// Everything that is asked about a file. Answers its verdict.
+    fn compare_file(&mut self, file: &[u8]) -> Answer {
         self.files += 1;
         self.lend_file(file);
         lent::remember(file);
@@ -364,15 +370,17 @@ impl Comparison {
         self.reads.add(due[0]);
         let forecast = self.forecast(file);
 
-        match &meaning {
+        let verdict = match &meaning {
             Err(_) => {
                 let length = if self.random.once_in(16) { 5_000 } else { self.random.below(20) };
                 let [reason, place, component] = due;
-                self.judge(file, [reason, place, component, 0], None, length);
+                let refused = [reason, place, component, 0];
+                self.judge(file, refused, None, length);
                 if self.random.once_in(4) {
                     let shares = [0; 5].map(|_: u8| self.random.below(4) as u8);
                     self.run(file, shares);
                 }
+                refused
             }
             Ok(design) => {
                 self.readable += 1;
@@ -408,8 +416,9 @@ impl Comparison {
                     let shares = self.shares(m, s);
                     self.run(file, shares);
                 }
+                full
             }
-        }
+        };
         if !self.file.is(file) {
             let now = self.file.slice().to_vec();
             self.differs("the file is only read", file, hex(&now), "");
@@ -417,6 +426,7 @@ impl Comparison {
         for length in 0..=file.len().min(8) {
             self.compare_forecast(&file[..length]);
         }
+        verdict
     }
 
     /// What an accepted design assures, by running it on every sharing of every secret. The last stage's output shares sum to S of the
@@ -470,30 +480,70 @@ impl Comparison {
         self.assured += 1;
     }
 
-    fn compare_produce(&mut self, m: usize, s: usize, table: &[u8], length: usize) -> Option<Vec<u8>> {
+    fn compare_produce(&mut self, m: usize, s: usize, table: &[u8], placement: &[u8], length: usize) -> Option<Vec<u8>> {
+        let both = [table, placement].concat();
+        let what = format!("produce {m} {s}, {} bytes and {}, output of {length}", table.len(), placement.len());
         let before = self.random.bytes(length);
         self.lend(&before);
         self.lend_file(table);
-        let p = native::produce(m, s, self.file.slice(), self.lent.slice());
+        self.lend_second(placement);
+        lent::remember(&both);
+        let p = native::produce(m, s, self.file.slice(), self.second.slice(), self.lent.slice());
         let mut after = before;
-        let due = reference::produce(m, s, table, &mut after);
+        let due = reference::produce(m, s, table, placement, &mut after);
         if (p.reason, p.length) != due {
-            self.differs(&format!("produce {m} {s}, output of {length}"), table, p, due);
+            self.differs(&what, &both, p, due);
         }
-        if !self.lent.is(&after) || !self.file.is(table) {
+        if !self.lent.is(&after) {
             let now = self.lent.slice().to_vec();
-            self.differs(&format!("produce {m} {s}, bytes of an output of {length}"), table, hex(&now), hex(&after));
+            self.differs(&format!("{what}: its bytes"), &both, hex(&now), hex(&after));
+        }
+        if !self.file.is(table) || !self.second.is(placement) {
+            self.differs(&format!("{what}: table and placement are only read"), &both, "", "");
         }
         self.produced.add(due.0);
+        if (3..=5).contains(&s) && !loads(s, placement) {
+            let (published, _) = reference::produce(m, s, table, &published_placement(s), &mut vec![0; length]);
+            // 21 comes after 4, 3, 5 and 8, and before 16 and 17
+            let first = if [4, 3, 5, 8].contains(&published) { published } else { 21 };
+            if p.reason != first {
+                self.differs(&format!("{what}: the order of refusals"), &both, p, first);
+            }
+            self.unplaced.add(published);
+        }
         after.truncate(due.1);
         (due.0 == 0).then_some(after)
     }
 
-    /// Producing with numbers, tables and outputs that are mostly good.
-    fn produce(&mut self) -> Option<Vec<u8>> {
+    /// Everything that is asked about a file that was produced. By whatever placement, its component c ignores share c.
+    fn compare_produced(&mut self, file: &[u8], placement: &[u8]) {
+        let verdict = self.compare_file(file);
+        let (m, s) = (usize::from(file[4]), usize::from(file[5]));
+        if m * s <= 12 {
+            let design = reference::read(file).expect("what is produced reads");
+            let read = shares_read(&design.stages[0], m, s);
+            if read.iter().enumerate().any(|(c, read)| read.contains(&c)) {
+                self.differs("component c of what is produced ignores share c", file, read, placement);
+            }
+        }
+        let mut published = vec![0; PRODUCED_MAX];
+        reference::produce(m, s, &file[11..11 + (1 << m)], &published_placement(s), &mut published);
+        if published[..file.len()] != *file {
+            self.placed.add(verdict[0]);
+        }
+    }
+
+    /// Producing with numbers, tables, placements and outputs that are mostly good; a placement may be bad beside any other fault, so that
+    /// the order of the refusals shows. Answers what is produced, and by which placement.
+    fn produce(&mut self) -> Option<(Vec<u8>, Vec<u8>)> {
         let random = &mut self.random;
         let (mut m, mut s) = make::size(random);
         let mut table = if random.once_in(3) { make::permutation(random, m) } else { make::shareable(random, m, s) };
+        let placement = match random.below(8) {
+            0 | 1 => make::bad_placement(random, s),
+            2 => published_placement(s),
+            _ => make::placement(random, s),
+        };
         let mut length = PRODUCED_MAX;
         match random.below(12) {
             0 => m = random.pick(&[0, 7, 8, 20, 64, 255, 256, 1 << 32, usize::MAX, m + 256]),
@@ -511,13 +561,13 @@ impl Comparison {
             6 => table = (0..table.len()).map(|_| random.below(1 << m) as u8).collect(),
             7 => {
                 // an output near the length that the file has
-                let (_, exact) = reference::produce(m, s, &table, &mut vec![0; PRODUCED_MAX]);
+                let (_, exact) = reference::produce(m, s, &table, &placement, &mut vec![0; PRODUCED_MAX]);
                 length = (exact + 2).saturating_sub(random.below(5));
             }
             8 => length = random.below(60),
             _ => {}
         }
-        self.compare_produce(m, s, &table, length)
+        self.compare_produce(m, s, &table, &placement, length).map(|file| (file, placement))
     }
 
     /// The transform with numbers, inputs and outputs that are mostly good; an output may be short beside any other fault, so that the
@@ -669,8 +719,9 @@ impl Comparison {
     /// Each operation with what is lent beside the pages that nobody may touch, on every side, in every length near the one due.
     fn edges(&mut self) {
         let table = [0, 1, 2, 3, 4, 5, 7, 6];
+        let published = published_placement(3);
         let mut box3 = vec![0; PRODUCED_MAX];
-        let (_, length) = reference::produce(3, 3, &table, &mut box3);
+        let (_, length) = reference::produce(3, 3, &table, &published, &mut box3);
         box3.truncate(length);
         // to be joined with it: a box that does not commute with it
         let other = encode(&chain(3, 3, &[&[0, 1, 2, 4, 3, 6, 7, 5]]));
@@ -683,11 +734,12 @@ impl Comparison {
             }
             self.workspaces();
             for length in 0..box3.len() + 3 {
-                self.compare_produce(3, 3, &table, length);
+                self.compare_produce(3, 3, &table, &published, length);
             }
             for length in 0..table.len() {
-                self.compare_produce(3, 3, &table[..length], PRODUCED_MAX);
+                self.compare_produce(3, 3, &table[..length], &published, PRODUCED_MAX);
             }
+            self.placements(&table);
             for length in 0..box3.len() + other.len() {
                 self.compare_join(&box3, &other, length);
                 self.compare_join(&box3[..length.min(box3.len())], &other, length);
@@ -706,6 +758,25 @@ impl Comparison {
             }
         }
         self.sides = None;
+    }
+
+    /// Producing by placements of every length near the one due, and by the published one of three shares with every single byte changed.
+    fn placements(&mut self, table: &[u8; 8]) {
+        for s in 3..=5 {
+            let longer = [published_placement(s), vec![1; 3]].concat();
+            for length in 0..=longer.len() {
+                self.compare_produce(3, s, table, &longer[..length], PRODUCED_MAX);
+            }
+        }
+        for at in 0..6 {
+            for value in 0..=255 {
+                let mut placement = published_placement(3);
+                placement[at] = value;
+                if let Some(file) = self.compare_produce(3, 3, table, &placement, PRODUCED_MAX) {
+                    self.compare_produced(&file, &placement);
+                }
+            }
+        }
     }
 
     /// Every single byte of D changed, and lists of about as many terms as there may be, also joined.
@@ -814,8 +885,9 @@ impl Comparison {
         }
         let present_like = [0, 1, 2, 3, 4, 5, 6, 7, 8, 9, 10, 11, 12, 13, 15, 14];
         for s in [4, 5] {
-            let file = self.compare_produce(4, s, &present_like, PRODUCED_MAX);
-            self.compare_file(&file.expect("degree 3"));
+            let placement = published_placement(s);
+            let file = self.compare_produce(4, s, &present_like, &placement, PRODUCED_MAX);
+            self.compare_produced(&file.expect("degree 3"), &placement);
         }
     }
 
@@ -841,10 +913,15 @@ impl Comparison {
                 0..=29 => {
                     let (m, s) = make::size(&mut self.random);
                     let k = if m * s > 12 { 1 + self.random.below(2) * self.random.below(4) } else { 1 + self.random.below(4) };
-                    encode(&self.sized(m, s, k))
+                    let file = encode(&self.sized(m, s, k));
+                    self.compare_file(&file);
+                    file
                 }
                 30..=36 => match self.produce() {
-                    Some(file) if file[4] * file[5] <= 16 => file,
+                    Some((file, placement)) if file[4] * file[5] <= 16 => {
+                        self.compare_produced(&file, &placement);
+                        file
+                    }
                     _ => continue,
                 },
                 _ => {
@@ -855,7 +932,6 @@ impl Comparison {
                     continue;
                 }
             };
-            self.compare_file(&base);
             let large = base[4] * base[5] > 12;
             for _ in 0..if large { 2 } else { 3 } {
                 let mut file = make::damaged(&mut self.random, &base);
@@ -914,7 +990,9 @@ fn main() {
     complete &= c.uniformity.say("uniformity", false);
     complete &= c.ignored.say();
     complete &= c.runs.say("run", &[0, 1, 2, 3, 4, 5, 6, 7, 15]);
-    complete &= c.produced.say("produce", &[0, 3, 4, 5, 8, 16, 17]);
+    complete &= c.produced.say("produce", &[0, 3, 4, 5, 8, 16, 17, 21]);
+    complete &= c.unplaced.say("produce by a placement that does not load, as by the published one", &[0, 3, 4, 5, 8, 16, 17]);
+    complete &= c.placed.say("judge, produced otherwise than by the published placement", &[0, 14]);
     complete &= c.transforms.say("transform", &[0, 3, 4, 5, 17]);
     println!("transform: {} outputs of the library transformed again", c.twice);
     complete &= c.joins[0].say("join, the first does not read", &[1, 2, 3, 4, 5, 6, 7]);

@@ -2,7 +2,7 @@
 
 use crate::random::Random;
 use reference::samples::layer;
-use reference::{direct_sharing, encode, Design, Product, Shares, Stage};
+use reference::{direct_sharing, encode, published_placement, Design, Product, Shares, Stage};
 
 pub const D: [u8; 47] = [
     3, 0, 1, 0, 1, 3, 1, 2, 0, 2, 0, 0, 1, 2, 0, 2, 0, 0, 1, 4, 0, 3, 0, 2, 0, 0, 0, 4, 0, 3, 0, 4, 0, 0, 0, 4, 0, 3, 0, 1, 0, 0,
@@ -76,6 +76,44 @@ pub fn shareable(random: &mut Random, m: usize, s: usize) -> Vec<u8> {
         1 => b,
         _ => after(&b, &after(&step(random, m, degree), &a)),
     }
+}
+
+/// The components (from 1) outside the set of shares that has this byte of a placement, or those in it.
+fn components(s: usize, byte: usize, inside: bool) -> Vec<u8> {
+    (1..=s as u8).filter(|component| ((byte + 1) >> (component - 1) & 1 == 1) == inside).collect()
+}
+
+/// A placement that loads: any, or the published one with one byte changed.
+pub fn placement(random: &mut Random, s: usize) -> Vec<u8> {
+    let mut placement = published_placement(s);
+    let bytes = if random.once_in(2) {
+        let byte = random.below(placement.len());
+        byte..byte + 1
+    } else {
+        0..placement.len()
+    };
+    for byte in bytes {
+        placement[byte] = random.pick(&components(s, byte, false));
+    }
+    placement
+}
+
+/// A placement that does not load.
+pub fn bad_placement(random: &mut Random, s: usize) -> Vec<u8> {
+    let mut placement = placement(random, s);
+    let byte = random.below(placement.len());
+    match random.below(6) {
+        0 => placement.truncate(byte),
+        1 => {
+            let n = random.pick(&[1, 2, 16, placement.len()]);
+            placement.extend(random.bytes(n));
+        }
+        2 => placement[byte] = 0,
+        3 => placement[byte] = random.pick(&[s as u8 + 1, 64, 255, placement[byte] + 32, placement[byte] + 64]),
+        4 => placement[byte] = random.pick(&components(s, byte, true)),
+        _ => placement = published_placement(if s == 3 { 4 } else { s - 1 }),
+    }
+    placement
 }
 
 fn product(random: &mut Random, m: usize, s: usize, factors: usize) -> Shares {
@@ -190,7 +228,7 @@ pub fn design(random: &mut Random, m: usize, s: usize, k: usize) -> Design {
         } else if random.once_in(6) {
             any_layer(random, m, s)
         } else {
-            direct_sharing(m, s, &table)
+            direct_sharing(m, s, &table, &published_placement(s))
         };
         match random.below(16) {
             0 => correct(random, &mut stage, m, s, false),
@@ -241,7 +279,8 @@ pub fn design(random: &mut Random, m: usize, s: usize, k: usize) -> Design {
 pub fn identity(m: usize, s: usize, k: usize) -> Design {
     let table: Vec<u8> = (0..1 << m).collect();
     let keep: Vec<usize> = (0..s).collect();
-    let stages = [direct_sharing(m, s, &table), layer(m, &table, &keep)].into_iter().cycle().take(k).collect();
+    let direct = direct_sharing(m, s, &table, &published_placement(s));
+    let stages = [direct, layer(m, &table, &keep)].into_iter().cycle().take(k).collect();
     Design { m, s, table, stages }
 }
 

@@ -69,11 +69,13 @@ pub enum Reason {
     SharesDiffer = 19,
     /// Two designs to join have more than four stages together.
     TooManyStages = 20,
+    /// The placement does not load: its length is not 2^s - 2, or a byte is not a component outside its set of shares.
+    BadPlacement = 21,
 }
 
 impl Reason {
     /// Every reason, their numbers rising.
-    pub const ALL: [Reason; 19] = [
+    pub const ALL: [Reason; 20] = [
         Reason::CutShort,
         Reason::WrongKind,
         Reason::WrongLength,
@@ -93,6 +95,7 @@ impl Reason {
         Reason::InputTooLong,
         Reason::SharesDiffer,
         Reason::TooManyStages,
+        Reason::BadPlacement,
     ];
 
     /// The published number.
@@ -100,7 +103,7 @@ impl Reason {
         self as usize
     }
 
-    /// The reason with a published number, 1 to 20; none has 11, which is retired.
+    /// The reason with a published number, 1 to 21; none has 11, which is retired.
     pub fn from_number(number: usize) -> Option<Reason> {
         Reason::ALL.into_iter().find(|reason| reason.number() == number)
     }
@@ -128,6 +131,9 @@ impl fmt::Display for Reason {
             Reason::InputTooLong => "the input exceeds 32,768 bytes",
             Reason::SharesDiffer => "the widths or the share counts of the two designs differ",
             Reason::TooManyStages => "the two designs have more than four stages together",
+            Reason::BadPlacement => {
+                "the placement does not load: its length is not 2^s - 2, or a byte is not a component outside its set"
+            }
         })
     }
 }
@@ -205,6 +211,27 @@ pub const WORKSPACE_MAX: usize = 131_072;
 /// [`Reason::OutputTooShort`] is never answered.
 pub const PRODUCED_MAX: usize = 20_867;
 
+/// The published placement for three shares: see [`published_placement`].
+pub const PLACEMENT_3: [u8; 6] = [3, 1, 3, 2, 2, 1];
+
+/// The published placement for four shares.
+pub const PLACEMENT_4: [u8; 14] = [4, 1, 4, 2, 2, 1, 4, 3, 3, 1, 3, 2, 2, 1];
+
+/// The published placement for five shares.
+pub const PLACEMENT_5: [u8; 30] = [5, 1, 5, 2, 2, 1, 5, 3, 3, 1, 3, 2, 2, 1, 5, 4, 4, 1, 4, 2, 2, 1, 4, 3, 3, 1, 3, 2, 2, 1];
+
+/// The published placement for s shares: a product goes to the lowest component c outside its set of shares for which c + 1 (after s comes
+/// 1) is in the set. With it producing gives the direct sharing of the papers. Empty where s is none of 3, 4 and 5: producing then refuses
+/// with [`Reason::LimitBroken`], whatever the placement is.
+pub fn published_placement(s: usize) -> &'static [u8] {
+    match s {
+        3 => &PLACEMENT_3,
+        4 => &PLACEMENT_4,
+        5 => &PLACEMENT_5,
+        _ => &[],
+    }
+}
+
 fn reason(number: usize) -> Option<Reason> {
     if number == 0 {
         return None;
@@ -251,18 +278,30 @@ pub fn run(file: &[u8], shares: [u8; 5]) -> Result<[u8; 5], Reason> {
     reason(answer.reason).map_or(Ok(answer.shares.share), Err)
 }
 
-/// The direct sharing of a table in s shares, as a design file.
-pub fn produce(m: usize, s: usize, table: &[u8]) -> Result<Vec<u8>, Reason> {
+/// The direct sharing of a table in s shares, each product in the component that the placement says, as a design file. The placement has
+/// 2^s - 2 bytes: for each set of shares, as a number J from 1 on with bit j - 1 for share j, the byte at index J - 1 is the component,
+/// counted from 1, of the products whose chosen shares are that set, and its share is not in the set. The constant goes to component 1.
+///
+/// ```
+/// use jestrunas::{judge, produce, published_placement, Reason};
+///
+/// let table = [0, 1, 2, 3, 4, 5, 7, 6];
+/// let file = produce(3, 3, &table, published_placement(3)).unwrap();
+/// assert!(judge(&file).is_ok());
+/// // component 1 is given what share 1 alone makes, and has to ignore it
+/// assert_eq!(produce(3, 3, &table, &[1, 1, 3, 2, 2, 1]), Err(Reason::BadPlacement));
+/// ```
+pub fn produce(m: usize, s: usize, table: &[u8], placement: &[u8]) -> Result<Vec<u8>, Reason> {
     let mut output = vec![0; PRODUCED_MAX];
-    let length = produce_in(m, s, table, &mut output)?;
+    let length = produce_in(m, s, table, placement, &mut output)?;
     output.truncate(length);
     Ok(output)
 }
 
-/// The direct sharing of a table in s shares, written to a lent output: its length. The bytes past it are untouched,
+/// The direct sharing of a table in s shares by a placement, written to a lent output: its length. The bytes past it are untouched,
 /// and a refusal leaves the whole output untouched.
-pub fn produce_in(m: usize, s: usize, table: &[u8], output: &mut [u8]) -> Result<usize, Reason> {
-    let answer = native::produce(m, s, table, output);
+pub fn produce_in(m: usize, s: usize, table: &[u8], placement: &[u8], output: &mut [u8]) -> Result<usize, Reason> {
+    let answer = native::produce(m, s, table, placement, output);
     reason(answer.reason).map_or(Ok(answer.length), Err)
 }
 
@@ -300,7 +339,7 @@ mod tests {
         let numbers: Vec<usize> = (0..30).filter(|&number| Reason::from_number(number).is_some()).collect();
         assert_eq!(numbers, Reason::ALL.map(Reason::number));
         // 11 is retired
-        assert_eq!(numbers, (1..=20).filter(|&number| number != 11).collect::<Vec<_>>());
+        assert_eq!(numbers, (1..=21).filter(|&number| number != 11).collect::<Vec<_>>());
     }
 
     /// The number that the C header gives a name.
@@ -329,8 +368,73 @@ mod tests {
     }
 
     #[test]
+    fn the_header_has_the_same_placements() {
+        let header = include_str!("../../../include/jestrunas.h");
+        for s in 3..=5 {
+            let name = format!("jestrunas_placement_{s}[{}] = {{", (1 << s) - 2);
+            let (_, array) = header.split_once(&name).unwrap_or_else(|| panic!("{name}"));
+            let (bytes, _) = array.split_once('}').unwrap();
+            let bytes: Vec<u8> = bytes.split(',').map(|byte| byte.trim().parse().unwrap()).collect();
+            assert_eq!(bytes, published_placement(s), "{s} shares");
+        }
+        for s in [0, 1, 2, 6, usize::MAX] {
+            assert!(published_placement(s).is_empty());
+            assert_eq!(produce(1, s, &[0, 1], published_placement(s)), Err(Reason::LimitBroken));
+        }
+    }
+
+    #[test]
+    fn a_placement_that_does_not_load_is_refused() {
+        let not = |placement: &[u8]| produce(1, 3, &[1, 0], placement);
+        assert!(not(&PLACEMENT_3).is_ok());
+        // another length
+        assert_eq!(not(&[]), Err(Reason::BadPlacement));
+        assert_eq!(not(&PLACEMENT_3[..5]), Err(Reason::BadPlacement));
+        assert_eq!(not(&[3, 1, 3, 2, 2, 1, 1]), Err(Reason::BadPlacement));
+        // no component
+        assert_eq!(not(&[0, 1, 3, 2, 2, 1]), Err(Reason::BadPlacement));
+        assert_eq!(not(&[3, 1, 3, 2, 2, 4]), Err(Reason::BadPlacement));
+        // a component in its set
+        assert_eq!(not(&[1, 1, 3, 2, 2, 1]), Err(Reason::BadPlacement));
+        assert_eq!(not(&[3, 1, 3, 2, 2, 3]), Err(Reason::BadPlacement));
+        let mut output = [9; 51];
+        assert_eq!(produce_in(1, 3, &[1, 0], &PLACEMENT_4, &mut output), Err(Reason::BadPlacement));
+        assert_eq!(output, [9; 51]);
+    }
+
+    #[test]
+    fn another_placement_gives_another_file() {
+        let table = [0, 1, 2, 3, 4, 5, 7, 6];
+        let published = produce(3, 3, &table, &PLACEMENT_3).unwrap();
+        // the products of two shares have one place, those of one share have two
+        for singles in 0..8 {
+            let placement = [[2, 3][singles & 1], [1, 3][singles >> 1 & 1], 3, [1, 2][singles >> 2], 2, 1];
+            let file = produce(3, 3, &table, &placement).unwrap();
+            assert_eq!(file == published, placement == PLACEMENT_3, "{placement:?}");
+            assert_eq!(file.len(), published.len());
+            match judge(&file) {
+                Ok(accepted) => assert_eq!(accepted.stages, 1),
+                Err(refusal) => assert_eq!((refusal.reason, refusal.place), (Reason::NotUniform, 1), "{placement:?}"),
+            }
+        }
+    }
+
+    #[test]
+    fn another_placement_makes_a_box_uniform() {
+        let table = [0, 1, 2, 4, 3, 6, 7, 5];
+        let file = produce(3, 4, &table, &PLACEMENT_4).unwrap();
+        assert_eq!(judge(&file).unwrap_err().reason, Reason::NotUniform);
+        // the products of shares 1 and 2 go to component 3, and not to 4
+        let mut placement = PLACEMENT_4;
+        placement[2] = 3;
+        let file = produce(3, 4, &table, &placement).unwrap();
+        assert_eq!(judge(&file), Ok(Accepted { stages: 1, trials: 8192 }));
+        assert_eq!(file, include_bytes!("../../../designs/placed.bin"));
+    }
+
+    #[test]
     fn a_produced_box_is_accepted() {
-        let file = produce(3, 3, &[0, 1, 2, 3, 4, 5, 7, 6]).unwrap();
+        let file = produce(3, 3, &[0, 1, 2, 3, 4, 5, 7, 6], &PLACEMENT_3).unwrap();
         assert_eq!(read(&file), Ok(()));
         assert_eq!(judge(&file), Ok(Accepted { stages: 1, trials: 1024 }));
         assert_eq!(numbers(&judge(&file)), [0, 1, 0]);
@@ -340,7 +444,7 @@ mod tests {
 
     #[test]
     fn a_box_without_a_uniform_form_is_refused() {
-        let file = produce(3, 3, &[0, 1, 2, 4, 3, 6, 7, 5]).unwrap();
+        let file = produce(3, 3, &[0, 1, 2, 4, 3, 6, 7, 5], &PLACEMENT_3).unwrap();
         let refusal = judge(&file).unwrap_err();
         assert_eq!(refusal, Refusal { reason: Reason::NotUniform, place: 1, component: 0, trials: 650 });
         assert_eq!(refusal.to_string(), "14 1 0: stage 1 is not uniform");
@@ -357,7 +461,7 @@ mod tests {
     fn refusals_are_errors() {
         assert_eq!(judge(&[]).unwrap_err().reason, Reason::CutShort);
         assert_eq!(forecast(&[]), Err(Reason::CutShort));
-        assert_eq!(produce(4, 2, &[]), Err(Reason::LimitBroken));
+        assert_eq!(produce(4, 2, &[], &[]), Err(Reason::LimitBroken));
         assert_eq!(run(&[], [0; 5]), Err(Reason::CutShort));
         assert_eq!(join(&[], &[]), Err(Reason::CutShort));
         assert_eq!(transform(1, &[0, 1], &mut [0]), Err(Reason::OutputTooShort));
@@ -385,9 +489,9 @@ mod tests {
         let present: &[u8] = include_bytes!("../../../designs/present.bin");
         let four_stages = join(present, present).unwrap();
         assert_eq!(join(&four_stages, present), Err(Reason::TooManyStages));
-        let other_width = produce(3, 3, &[0, 1, 2, 3, 4, 5, 7, 6]).unwrap();
+        let other_width = produce(3, 3, &[0, 1, 2, 3, 4, 5, 7, 6], &PLACEMENT_3).unwrap();
         assert_eq!(join(&four_stages, &other_width), Err(Reason::SharesDiffer));
-        let other_count = produce(4, 4, &(0..16).collect::<Vec<u8>>()).unwrap();
+        let other_count = produce(4, 4, &(0..16).collect::<Vec<u8>>(), &PLACEMENT_4).unwrap();
         assert_eq!(join(&other_count, present), Err(Reason::SharesDiffer));
         assert_eq!(join(present, &[0, 0, 1, 0]), Err(Reason::WrongLength));
         assert_eq!(join(&[0; 4], &[0, 0, 1, 0]), Err(Reason::WrongKind));

@@ -51,7 +51,16 @@ extern "C" {
     fn jestrunas_forecast(file: *const u8, file_len: usize) -> Forecast;
     fn jestrunas_judge(file: *const u8, file_len: usize, workspace: *mut u8, workspace_len: usize) -> Judged;
     fn jestrunas_run(file: *const u8, file_len: usize, shares: Shares) -> Run;
-    fn jestrunas_produce(m: usize, s: usize, table: *const u8, table_len: usize, output: *mut u8, output_len: usize) -> Produced;
+    fn jestrunas_produce(
+        m: usize,
+        s: usize,
+        table: *const u8,
+        table_len: usize,
+        placement: *const u8,
+        placement_len: usize,
+        output: *mut u8,
+        output_len: usize,
+    ) -> Produced;
     fn jestrunas_join(
         first: *const u8,
         first_len: usize,
@@ -79,8 +88,19 @@ pub fn run(file: &[u8], shares: [u8; 5]) -> Run {
     unsafe { jestrunas_run(file.as_ptr(), file.len(), Shares { share: shares }) }
 }
 
-pub fn produce(m: usize, s: usize, table: &[u8], output: &mut [u8]) -> Produced {
-    unsafe { jestrunas_produce(m, s, table.as_ptr(), table.len(), output.as_mut_ptr(), output.len()) }
+pub fn produce(m: usize, s: usize, table: &[u8], placement: &[u8], output: &mut [u8]) -> Produced {
+    unsafe {
+        jestrunas_produce(
+            m,
+            s,
+            table.as_ptr(),
+            table.len(),
+            placement.as_ptr(),
+            placement.len(),
+            output.as_mut_ptr(),
+            output.len(),
+        )
+    }
 }
 
 pub fn join(first: &[u8], second: &[u8], output: &mut [u8]) -> Produced {

@@ -12,7 +12,7 @@ mod transform;
 pub use design::{encode, read, Design, Fault, Product, Shares, Stage};
 pub use join::join;
 pub use judge::{forecast, judge, run, verdict};
-pub use produce::{direct_sharing, produce};
+pub use produce::{direct_sharing, loads, produce, published_placement};
 pub use transform::transform;
 
 /// A verdict: reason, place, component, and the trials that it took.

@@ -1,7 +1,7 @@
 //! Designs that the tests, the sample files and the benchmark share.
 
 use crate::design::{Design, Product, Stage};
-use crate::produce::direct_sharing;
+use crate::produce::{direct_sharing, published_placement};
 use crate::transform::coefficient;
 
 /// PRESENT's S-box is F after G, both quadratic (Poschmann, Moradi, Khoo, Lim, Wang and Ling, "Side-channel resistant
@@ -37,10 +37,20 @@ pub fn cubic() -> Vec<u8> {
     (0..14).chain([15, 14]).collect()
 }
 
-/// A chain of tables, each shared directly; S is what they give together.
+/// A chain of tables, each shared directly by the published placement; S is what they give together.
 pub fn chain(m: usize, s: usize, tables: &[&[u8]]) -> Design {
     let table = (0..1 << m).map(|x| tables.iter().fold(x, |x: u8, table| table[usize::from(x)])).collect();
-    Design { m, s, table, stages: tables.iter().map(|table| direct_sharing(m, s, table)).collect() }
+    let placement = published_placement(s);
+    Design { m, s, table, stages: tables.iter().map(|table| direct_sharing(m, s, table, &placement)).collect() }
+}
+
+/// The published placement of four shares with one byte changed: the products of shares 1 and 2 go to component 3, and not to 4. By it
+/// the box 01243675 and Keccak's map of a row are uniform, by the published one they are not.
+pub const PLACEMENT: [u8; 14] = [4, 1, 3, 2, 2, 1, 4, 3, 3, 1, 3, 2, 2, 1];
+
+/// A table in four shares, shared directly by this placement.
+pub fn placed(m: usize, table: &[u8]) -> Design {
+    Design { m, s: 4, table: table.to_vec(), stages: vec![direct_sharing(m, 4, table, &PLACEMENT)] }
 }
 
 /// D of the papers: one bit in three shares, lists {2}, {4}, {1}.

@@ -1,10 +1,10 @@
 //! The bench designs of the papers, with the answers that the papers give.
 
 use reference::samples::{
-    bits_apart, chain, cubic, d, full, keccak_row, leaking, linear, one_bit, six_bits, twenty_share_bits, PRESENT, PRESENT_F,
-    PRESENT_G,
+    bits_apart, chain, cubic, d, full, keccak_row, leaking, linear, one_bit, six_bits, twenty_share_bits, PLACEMENT, PRESENT,
+    PRESENT_F, PRESENT_G,
 };
-use reference::{encode, forecast, join, judge, produce, read, repeats, run, transform, Answer, Product};
+use reference::{encode, forecast, join, judge, produce, published_placement, read, repeats, run, transform, Answer, Product};
 
 const D: [u8; 47] = [
     3, 0, 1, 0, 1, 3, 1, 2, 0, 2, 0, 0, 1, 2, 0, 2, 0, 0, 1, 4, 0, 3, 0, 2, 0, 0, 0, 4, 0, 3, 0, 4, 0, 0, 0, 4, 0, 3, 0, 1, 0, 0,
@@ -16,8 +16,12 @@ fn verdict(file: &[u8]) -> Answer {
 }
 
 fn produced(m: usize, s: usize, table: &[u8]) -> Result<Vec<u8>, usize> {
+    placed(m, s, table, &published_placement(s))
+}
+
+fn placed(m: usize, s: usize, table: &[u8], placement: &[u8]) -> Result<Vec<u8>, usize> {
     let mut output = vec![0; 20_867];
-    let (reason, length) = produce(m, s, table, &mut output);
+    let (reason, length) = produce(m, s, table, placement, &mut output);
     output.truncate(length);
     if reason == 0 {
         Ok(output)
@@ -140,20 +144,70 @@ fn long_lists() {
     assert_eq!(verdict(&[3, 0, 2, 0, 1]), [2, 0, 0, 0]);
 }
 
+/// The lists of the only stage of one bit.
+fn lists(file: &[u8]) -> Vec<Vec<u32>> {
+    let components = &read(file).unwrap().stages[0].components;
+    components.iter().map(|bits| bits[0].iter().map(|product| product.number(1)).collect()).collect()
+}
+
 #[test]
 fn producing() {
     let file = produced(1, 3, &[1, 0]).unwrap();
     assert_eq!(file.len(), 51);
-    let lists: Vec<Vec<u32>> = read(&file).unwrap().stages[0]
-        .components
-        .iter()
-        .map(|bits| bits[0].iter().map(|product| product.number(1)).collect())
-        .collect();
-    assert_eq!(lists, [vec![0, 2], vec![4], vec![1]]);
+    assert_eq!(lists(&file), [vec![0, 2], vec![4], vec![1]]);
     assert_eq!(verdict(&produced(3, 3, &digits("01234576")).unwrap()), [0, 1, 0, 1024]);
     assert_eq!(verdict(&produced(3, 3, &digits("01243675")).unwrap()), [14, 1, 0, 650]);
     assert_eq!(produced(4, 3, &cubic()), Err(16));
     assert_eq!(verdict(&produced(4, 4, &cubic()).unwrap()), [0, 1, 0, 131_072]);
+}
+
+#[test]
+fn placements() {
+    assert_eq!(placed(1, 3, &[1, 0], &digits("313221")), produced(1, 3, &[1, 0]));
+    // the constant goes to component 1 still
+    let file = placed(1, 3, &[1, 0], &digits("233121")).unwrap();
+    assert_eq!(lists(&file), [vec![0, 4], vec![1], vec![2]]);
+    assert_eq!(verdict(&file), [0, 1, 0, 16]);
+    // shares 1 and 2 in component 3, and no share in component 1
+    let file = placed(1, 3, &[1, 0], &digits("333221")).unwrap();
+    assert_eq!(lists(&file), [vec![0], vec![4], vec![1, 2]]);
+    assert_eq!(verdict(&file)[..3], [14, 1, 0]);
+}
+
+#[test]
+fn a_placement_that_makes_boxes_uniform() {
+    let uneven = digits("01243675");
+    for (m, table) in [(3, &uneven), (5, &keccak_row())] {
+        assert_eq!(verdict(&produced(m, 4, table).unwrap())[..3], [14, 1, 0]);
+        assert_eq!(verdict(&placed(m, 4, table, &PLACEMENT).unwrap())[..3], [0, 1, 0]);
+    }
+    // in three shares no placement does: only those of one share's products may differ
+    for singles in 0..8 {
+        let placement = [[2, 3][singles & 1], [1, 3][singles >> 1 & 1], 3, [1, 2][singles >> 2], 2, 1];
+        assert_eq!(verdict(&placed(3, 3, &uneven, &placement).unwrap())[..3], [14, 1, 0]);
+    }
+}
+
+#[test]
+fn refusals_of_placements() {
+    let not = |placement| placed(1, 3, &[1, 0], &digits(placement));
+    assert!(not("313221").is_ok());
+    for placement in ["", "31322", "3132211", "013221", "413221", "313224", "113221", "323221", "313223"] {
+        assert_eq!(not(placement), Err(21), "{placement}");
+    }
+    assert_eq!(placed(1, 3, &[1, 0], &published_placement(4)), Err(21));
+    let mut output = [9; 51];
+    assert_eq!(produce(1, 3, &[1, 0], &digits("31322"), &mut output), (21, 0));
+    assert_eq!(output, [9; 51]);
+    // 4, 3, 5 and 8 before 21, and 21 before 16 and 17
+    let bad = digits("113221");
+    assert_eq!(placed(1, 2, &[1, 0], &bad), Err(4));
+    assert_eq!(placed(1, 3, &[1], &bad), Err(3));
+    assert_eq!(placed(1, 3, &[1, 2], &bad), Err(5));
+    assert_eq!(placed(1, 3, &[1, 1], &bad), Err(8));
+    assert_eq!(placed(4, 3, &cubic(), &bad), Err(21));
+    assert_eq!(produce(1, 3, &[1, 0], &bad, &mut []), (21, 0));
+    assert_eq!(produce(1, 3, &[1, 0], &digits("313221"), &mut []), (17, 0));
 }
 
 fn joined(first: &[u8], second: &[u8]) -> Result<Vec<u8>, usize> {

@@ -5,7 +5,6 @@ use Rattle.std.specs.List.{position_or_len}
 use Rattle.finite.specs.Tests.{pick}
 use Rattle.finite.specs.Sets.{has}
 use Rattle.anf.specs.Terms.{before}
-use Rattle.direct.specs.Direct.{component_for}
 
 -- f 0, f 1, .. f (n - 1), joined
 unfoldable pub joined : ℕ → (ℕ → List ℕ) → List ℕ
@@ -13,18 +12,18 @@ joined zero f = []
 joined (suc n) f = joined n f ++ f n
 
 -- the product p, for which the shares J are chosen, if it goes to component c
-unfoldable pub ending : ℕ → ℕ → ℕ → ℕ → List ℕ
-ending s c p J = pick (eqb (component_for s J) c) (p ∷ []) []
+unfoldable pub ending : (ℕ → ℕ) → ℕ → ℕ → ℕ → List ℕ
+ending place c p J = pick (eqb (place J) c) (p ∷ []) []
 
 -- the products of the variables of u below a number, on top of p, for which the shares J are chosen so far, that go to component c
-unfoldable pub emitted : ℕ → ℕ → ℕ → ℕ → ℕ → ℕ → ℕ → List ℕ
-emitted m s u c zero p J = ending s c p J
-emitted m s u c (suc v) p J =
-    pick (has u v) (joined s (λ j. emitted m s u c v (bit_or p (2 ^ (m * j + v))) (bit_or J (2 ^ j)))) (emitted m s u c v p J)
+unfoldable pub emitted : ℕ → ℕ → (ℕ → ℕ) → ℕ → ℕ → ℕ → ℕ → ℕ → List ℕ
+emitted m s place u c zero p J = ending place c p J
+emitted m s place u c (suc v) p J =
+    pick (has u v) (joined s (λ j. emitted m s place u c v (bit_or p (2 ^ (m * j + v))) (bit_or J (2 ^ j)))) (emitted m s place u c v p J)
 
 -- what the term u brings to the list of bit b of component c, where its coefficient word has bit b
-abbrev pub brought : ℕ → ℕ → ℕ → ℕ → ℕ → ℕ → List ℕ
-brought m s c b word u = pick (has word b) (emitted m s u c m 0 0) []
+abbrev pub brought : ℕ → ℕ → (ℕ → ℕ) → ℕ → ℕ → ℕ → ℕ → List ℕ
+brought m s place c b word u = pick (has word b) (emitted m s place u c m 0 0) []
 
 -- t put before the first term that it stands before
 abbrev pub placed_in : ℕ → List ℕ → List ℕ

@@ -1,7 +1,7 @@
 -- The file of a direct sharing part by part.
-use Rattle.std.specs.Prelude.{ℕ, ◌+◌, ◌*◌, List, [], ◌∷◌, ◌++◌, get_or}
+use Rattle.std.specs.Prelude.{ℕ, ◌*◌, ◌^◌, List, [], ◌∷◌, ◌++◌, get_or}
 use Rattle.records.specs.Records.{a_record}
-use Rattle.design.specs.Limits.{greatest_share_bits, greatest_terms}
+use Rattle.design.specs.Limits.{greatest_width, greatest_shares, greatest_points}
 use Rattle.design.specs.Encode.{encode}
 use Rattle.direct.specs.Direct.{direct_lists}
 
@@ -13,16 +13,16 @@ table_records m s t = a_record 1 (m ∷ s ∷ 1 ∷ []) ++ (a_record 2 t ++ a_re
 unfoldable pub one_stage_file : ℕ → ℕ → List ℕ → List (List ℕ) → List ℕ
 one_stage_file m s t ls = encode (record { m = m; s = s; k = 1; box = t; stages = record { table = t; lists = ls } ∷ [] })
 
--- the most bytes that the record of a list takes, and those of a stage's lists
-abbrev pub list_most : ℕ
-list_most = 4 + 4 * greatest_terms
+-- the lists that coefficient words give by a placement, and the file with them
+abbrev pub words_lists : ℕ → ℕ → (ℕ → ℕ) → List ℕ → List (List ℕ)
+words_lists m s place words = direct_lists m s place (λ u. get_or words u 0)
 
-abbrev pub lists_most : ℕ
-lists_most = greatest_share_bits * list_most
+abbrev pub words_file : ℕ → ℕ → (ℕ → ℕ) → List ℕ → List ℕ → List ℕ
+words_file m s place t words = one_stage_file m s t (words_lists m s place words)
 
--- the lists that coefficient words give, and the file with them
-abbrev pub words_lists : ℕ → ℕ → List ℕ → List (List ℕ)
-words_lists m s words = direct_lists m s (λ u. get_or words u 0)
+-- no more terms than this are counted: so many for each term, and for each bit of a byte
+abbrev pub term_most : ℕ
+term_most = greatest_shares ^ greatest_width * 8
 
-abbrev pub words_file : ℕ → ℕ → List ℕ → List ℕ → List ℕ
-words_file m s t words = one_stage_file m s t (words_lists m s words)
+abbrev pub terms_most : ℕ
+terms_most = greatest_points * term_most

@@ -2,7 +2,7 @@
 //! verdicts.txt, the file, and reason, place and component of its verdict; trials.txt, the file, the workspace and the trials of its
 //! forecast, and the trials of its verdict.
 
-use reference::samples::{chain, d, keccak_row, keccak_uniform, leaking, linear, PRESENT_F, PRESENT_G};
+use reference::samples::{chain, d, keccak_row, keccak_uniform, leaking, linear, placed, PRESENT_F, PRESENT_G};
 use reference::{encode, forecast, verdict};
 use std::path::Path;
 
@@ -17,9 +17,11 @@ fn main() -> std::io::Result<()> {
         ("present_f.bin", chain(4, 3, &[&PRESENT_F])),
         ("keccak3.bin", chain(5, 3, &[&keccak])),
         ("keccak4.bin", keccak_uniform()),
+        ("keccak4_placed.bin", placed(5, &keccak)),
         ("linear.bin", linear()),
         ("leaks.bin", leaking()),
         ("uneven.bin", chain(3, 3, &[&[0, 1, 2, 4, 3, 6, 7, 5]])),
+        ("placed.bin", placed(3, &[0, 1, 2, 4, 3, 6, 7, 5])),
     ];
     let (mut verdicts, mut trials) = (String::new(), String::new());
     for (name, design) in samples {

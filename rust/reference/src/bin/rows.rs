@@ -3,10 +3,11 @@
 //!
 //! Input, one line each, fields separated by one space, each line ended by a line feed:
 //!
-//!     m s TABLE    m and s in decimal; TABLE one hexadecimal digit an entry for m up to 4, two for m above 4, in capitals.
-//!                  The table is produced with s shares into an output of 32,768 bytes, and what is produced is judged
-//!                  with a workspace of 131,072 bytes.
-//!     file HEX     a design file, two hexadecimal digits a byte, judged with a workspace of 131,072 bytes.
+//!     m s TABLE              m and s in decimal; TABLE one hexadecimal digit an entry for m up to 4, two for m above 4,
+//!                            in capitals. The table is produced with s shares, by the published placement, into an output
+//!                            of 32,768 bytes, and what is produced is judged with a workspace of 131,072 bytes.
+//!     m s TABLE PLACEMENT    the same by this placement, one decimal digit a byte.
+//!     file HEX               a design file, two hexadecimal digits a byte, judged with a workspace of 131,072 bytes.
 //!
 //! Output, one line for each input line, N its number from 1, numbers in decimal, one space between:
 //!
@@ -29,6 +30,10 @@ fn entries(text: &str, digits: usize) -> Vec<u8> {
         .collect()
 }
 
+fn digits(text: &str) -> Vec<u8> {
+    text.chars().map(|digit| digit.to_digit(10).expect("a decimal digit") as u8).collect()
+}
+
 fn main() -> io::Result<()> {
     let mut out = io::stdout().lock();
     let mut accepted = 0;
@@ -39,10 +44,12 @@ fn main() -> io::Result<()> {
         write!(out, "{}", i + 1)?;
         let file = match fields[..] {
             ["file", bytes] => entries(bytes, 2),
-            [m, s, table] => {
+            [m, s, table, ref placement @ ..] if placement.len() < 2 => {
                 let (m, s) = (m.parse().expect("m"), s.parse().expect("s"));
+                let table = entries(table, if m > 4 { 2 } else { 1 });
+                let placement = placement.first().map_or_else(|| reference::published_placement(s), |bytes| digits(bytes));
                 let mut output = vec![0; 32_768];
-                let (reason, length) = reference::produce(m, s, &entries(table, if m > 4 { 2 } else { 1 }), &mut output);
+                let (reason, length) = reference::produce(m, s, &table, &placement, &mut output);
                 write!(out, " produce {reason} {length}")?;
                 if reason != 0 {
                     *refused[0].entry(reason).or_default() += 1;

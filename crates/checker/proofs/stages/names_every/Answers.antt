@@ -4,7 +4,7 @@ use Rattle.std.proofs.lemmas.Iterator.{YieldsList-from_range}
 use Rattle.std.proofs.lemmas.Iterator.Search.{all_from_yields_List}
 use Rattle.anf.specs.Terms.{named}
 use Rattle.threshold.specs.Inside.Variables.{variables, names_every}
-use Rattle.checker.proofs.Ranges.{all_range}
+use Rattle.finite.proofs.Lists.{all_range}
 use Rattle.checker.proofs.stages.names_every.Goals as goal
 
 pub returns : goal.returns

@@ -1,7 +1,7 @@
 -- Where no variable is left, the product is put into its place; else one share after the other is chosen for the highest variable, and what is left of the
 -- term has fewer. The laws are those of Stepping.
 use Rattle.direct.proofs.Emitting.{joined_zero}
-use Rattle.direct.proofs.Stepping.{room_here, goes_here, goes_elsewhere, fewer_left, left_within, row_fits, place_fits, place_low, share_low, chosen_low}
+use Rattle.direct.proofs.Stepping.{room_here, goes_here, goes_elsewhere, fewer_left, left_within, row_fits, place_fits, place_low, share_low}
 use Rattle.direct.proofs.Stepping.{room_share, shares_more, shares_all}
 use Rattle.direct.proofs.Rule.+expand.Goals as goal
 
@@ -30,7 +30,7 @@ pub with-requires : goal.with-requires
 with-requires t c = search share_low
 
 pub expand-requires : goal.expand-requires
-expand-requires t c = (search fewer_left, ((search left_within, search chosen_low), search room_share))
+expand-requires t c = (search fewer_left, (search left_within, search room_share))
 
 pub loop-j-preserved : goal.loop-j-preserved
 loop-j-preserved t c = search shares_more

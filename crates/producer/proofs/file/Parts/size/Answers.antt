@@ -1,5 +1,5 @@
 -- `Parts::size` meets its contract: the records of the file, summed.
-use Rattle.producer.proofs.Filing.{file_size_lem, table_body, tables_twice, tables_sum, with_lists, with_end}
+use Rattle.producer.proofs.Filing.{bits_fit, table_body, tables_twice, tables_sum, lists_sum, lists_fit, with_lists, with_end, size_all}
 use Rattle.producer.proofs.file.Parts.size.Goals as goal
 
 pub record_size-requires-2 : goal.record_size-requires-2
@@ -11,6 +11,15 @@ overflow_mul-tables c = search tables_twice
 pub overflow_add-tables : goal.overflow_add-tables
 overflow_add-tables c = search tables_sum
 
+pub overflow_mul-lists : goal.overflow_mul-lists
+overflow_mul-lists c = search bits_fit
+
+pub overflow_add-lists : goal.overflow_add-lists
+overflow_add-lists c = search lists_sum
+
+pub overflow_mul-lists-2 : goal.overflow_mul-lists-2
+overflow_mul-lists-2 c = search lists_fit
+
 pub overflow_add-result : goal.overflow_add-result
 overflow_add-result c = search with_lists
 
@@ -18,4 +27,4 @@ pub overflow_add-result-2 : goal.overflow_add-result-2
 overflow_add-result-2 c = search with_end
 
 pub returns : goal.returns
-returns c = search file_size_lem
+returns c = search size_all
