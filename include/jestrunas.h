@@ -172,7 +172,7 @@ static const uint8_t jestrunas_placement_5[30] = {5, 1, 5, 2, 2, 1, 5, 3, 3, 1, 
  * bit j - 1 is set for each share j in it. The placement has 2^s - 2 bytes, for J from 1 on: the byte at index J - 1 is
  * the component, from 1 to s, of every product with the set J, and its share is not in J. The constant, for which no share
  * is chosen, goes to component 1. No product has all s shares, since the degree is below s.
- * Answers 0 and the file's length, whatever the placement the same, the bytes past it untouched; or 4, 3, 5, 8, 21, 16 or
+ * Answers 0 and the file's length, the same by every placement, the bytes past it untouched; or 4, 3, 5, 8, 21, 16 or
  * 17, tested in this order, and length 0, the output untouched. What is produced, by any placement, reads, is correct and
  * non-complete, component c ignoring share c: with enough workspace its verdict is 0 or 14. The table and the placement
  * are only read.
