@@ -88,8 +88,8 @@ module _ (s i : ℕ) (high : s ≤ greatest_shares) (l : i < 2 ^ s - 2) where
   pub set_fits : Fits w32 (i + 1)
   set_fits = record { fits = omega (arith, l, pow_mono high) }
 
-  pub place_fits : Fits w32 i
-  place_fits = record { fits = omega (arith, l, pow_mono high) }
+  pub index_fits : Fits w32 i
+  index_fits = record { fits = omega (arith, l, pow_mono high) }
 
 pub shares_low : (s : ℕ) → s ≤ greatest_shares → s < 32
 shares_low s h = omega arith

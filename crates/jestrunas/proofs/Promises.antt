@@ -266,7 +266,7 @@ refused_output = output_refused
 -- How long the file is, the same whatever the placement is.
 pub produced_size : (m s : ℕ) (t l : List ℕ) → Box m s t → Loads s l → degree m (entry t) < s
     → length (produced m s t l) ≡ produced_length m s (subset_sum m (entry t))
-produced_size m s t l b a low = producer_terms.file_length m s t l b.table a low
+produced_size m s t l b a low = producer_terms.produced_size m s t l b.table a low
 
 -- How much output is always enough: for m and s, and for all of them, which is the bound at m 4 and s 5.
 pub produced_most_lem : (m s : ℕ) (t l : List ℕ) → Box m s t → Loads s l → degree m (entry t) < s → length (produced m s t l) ≤ produced_most m s

@@ -33,7 +33,7 @@ use Rattle.direct.proofs.Stage.{lists_congr}
 use Rattle.direct.proofs.Loading.{loaded}
 use Rattle.producer.specs.Producing.{produced, produced_reason, producing, output_after, produced_length}
 use Rattle.producer.specs.Inside.Filing.{one_stage_file}
-use Rattle.producer.proofs.Terms.{length_congr, file_length}
+use Rattle.producer.proofs.Terms.{length_congr, produced_size}
 use Rattle.records.specs.declared.Produced.{Produced}
 
 -- ---- what is known after the tests
@@ -168,7 +168,7 @@ module _ (m s : ℕ) (t l words : List ℕ) (room : ℕ) (r : DegreeTested m s t
   file_is = ap (one_stage_file m s t) (lists_congr m s (placed s l) (placed s l) (λ J h. refl) (λ u. get_or words u 0) (subset_sum m (entry t)) r.coefficients)
 
   pub length_is : produced_length m s (λ u. get_or words u 0) ≡ length (produced m s t l)
-  length_is = length_congr m s (λ u. get_or words u 0) (subset_sum m (entry t)) r.coefficients ∙ sym (file_length m s t l r.table r.placement r.low)
+  length_is = length_congr m s (λ u. get_or words u 0) (subset_sum m (entry t)) r.coefficients ∙ sym (produced_size m s t l r.table r.placement r.low)
 
   pub short : room < length (produced m s t l) → produced_reason m s t l room ≡ 17
   short h = r.passed ∙ fault_here _ 17 _ 0 (lt-ltb _ _ h)

@@ -24,7 +24,7 @@ use Rattle.design.proofs.Limits.{bounds}
 use Rattle.records.proofs.Overwriting.{record_length}
 use Rattle.records.proofs.Writes.{room_left, writes_then}
 use Rattle.producer.specs.Producing.{terms_count, produced_length}
-use Rattle.producer.specs.Inside.Filing.{table_records, one_stage_file, term_most, terms_most}
+use Rattle.producer.specs.Inside.Filing.{table_records, one_stage_file, word_bound, terms_bound}
 use Rattle.producer.proofs.Writing.{tables_length, file_records, file_length}
 
 -- ---- the lists
@@ -102,7 +102,7 @@ module _ (m s : ℕ) (t : List ℕ) (ls : List (List ℕ)) (w : Writer) (r : w.a
 
 pub record Counted (s : ℕ) (w : List ℕ) (u n : ℕ) : Type 0 where
   pub so_far : n ≡ total u (λ v. s ^ ones v * ones (get_or w v 0))
-  pub most : n ≤ u * term_most
+  pub most : n ≤ u * word_bound
 
 module _ (m s : ℕ) (limits : broken m s 1 ≡ false) (w : List ℕ) where
   pub width_shifts : m < 64
@@ -120,23 +120,23 @@ module _ (m s : ℕ) (limits : broken m s 1 ≡ false) (w : List ℕ) where
       pub term_fits : Fits w32 u
       term_fits = record { fits = omega (arith, u_low, pow_mono (bounds m s 1 limits).m_high) }
 
-      products_most : s ^ ones u ≤ greatest_shares ^ greatest_width
-      products_most =
+      power_most : s ^ ones u ≤ greatest_shares ^ greatest_width
+      power_most =
           omega (
             arith,
             pow-le-pow_left (bounds m s 1 limits).s_high (ones u),
             pow-le-pow_right {n = greatest_shares} (omega arith) {i = ones u} {j = greatest_width} (omega (arith, ones-le m u (omega (arith, u_low)), (bounds m s 1 limits).m_high)),
           )
 
-      pub products_fit : s ^ ones u < 18446744073709551616
-      products_fit = omega (arith, products_most)
+      pub power_fits : s ^ ones u < 18446744073709551616
+      power_fits = omega (arith, power_most)
 
       module _ (b : get_or (take k w) u 0 < 256) (p : ℕ) (e : p ≡ s ^ ones u) where
         abbrev pub bits : ℕ
         bits = ones (get_or (take k w) u 0)
 
-        word_most : p * bits ≤ term_most
-        word_most = mul-le-mul {n₂ = greatest_shares ^ greatest_width} {m₂ = 8} (omega (arith, products_most)) (ones-le 8 (get_or (take k w) u 0) b)
+        word_most : p * bits ≤ word_bound
+        word_most = mul-le-mul {n₂ = greatest_shares ^ greatest_width} {m₂ = 8} (omega (arith, power_most)) (ones-le 8 (get_or (take k w) u 0) b)
 
         pub word_fits : Fits w64 (p * bits)
         word_fits = record { fits = omega (arith, word_most) }
@@ -159,7 +159,7 @@ module _ (m s : ℕ) (limits : broken m s 1 ≡ false) (w : List ℕ) where
       unfolding terms_count
       all_counted words ws = rw ws (g.so_far ∙ ap (λ (x : ℕ). total x (λ v. s ^ ones v * ones (get_or w v 0))) all_gone)
 
-      pub all_within : n ≤ terms_most
+      pub all_within : n ≤ terms_bound
       all_within = omega (arith, g.most, all_gone, pow_mono (bounds m s 1 limits).m_high)
 
 -- ---- `size`: k is how many terms there are, a what the head takes, b what a table takes, e what the end takes
@@ -175,7 +175,7 @@ module _ (m s : ℕ) (limits : broken m s 1 ≡ false) (t : List ℕ) (h : lengt
     pub tables_sum : Fits w64 (a + 2 * b)
     tables_sum = record { fits = omega (arith, table_body) }
 
-    module _ (k : ℕ) (l : k ≤ terms_most) where
+    module _ (k : ℕ) (l : k ≤ terms_bound) where
       pub lists_sum : Fits w64 (m * s + k)
       lists_sum = record { fits = omega (arith, (bounds m s 1 limits).bits) }
 

@@ -23,7 +23,7 @@ use Rattle.design.specs.Limits.{broken}
 use Rattle.design.proofs.Limits.{bounds}
 use Rattle.direct.specs.Direct.{Loads, Box}
 use Rattle.producer.specs.Producing.{produced, produced_reason, terms_count, produced_length, products_most, produced_most}
-use Rattle.producer.proofs.Terms.{file_length}
+use Rattle.producer.proofs.Terms.{produced_size}
 use Rattle.producer.proofs.Theorems.{past_degree, seventeen_exactly}
 
 -- ---- the terms of all lists
@@ -61,7 +61,7 @@ module _ (m s : ℕ) (f : ℕ → ℕ) (low : degree m f < s) (small : (x : ℕ)
 -- what is produced of a permutation within the limits, of degree below s, takes no more
 pub produced_most_lem : (m s : ℕ) (t l : List ℕ) → Box m s t → Loads s l → degree m (entry t) < s → length (produced m s t l) ≤ produced_most m s
 unfolding produced_length produced_most
-produced_most_lem m s t l b a low = omega (arith, file_length m s t l b.table a low, terms_most m s (entry t) low b.table.below)
+produced_most_lem m s t l b a low = omega (arith, produced_size m s t l b.table a low, terms_most m s (entry t) low b.table.below)
 
 -- ---- the largest
 

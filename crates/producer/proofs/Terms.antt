@@ -130,9 +130,9 @@ module _ (m s : ℕ) (place : ℕ → ℕ) (o : Outside s place) (t : List ℕ) 
 
 -- ---- the file
 
-pub file_length : (m s : ℕ) (t l : List ℕ) → TableFits m t → Loads s l → degree m (entry t) < s → length (produced m s t l) ≡ produced_length m s (subset_sum m (entry t))
+pub produced_size : (m s : ℕ) (t l : List ℕ) → TableFits m t → Loads s l → degree m (entry t) < s → length (produced m s t l) ≡ produced_length m s (subset_sum m (entry t))
 unfolding produced produced_length direct_sharing direct_stage total
-file_length m s t l fits a low =
+produced_size m s t l fits a low =
     omega (
       arith,
       fits.size,

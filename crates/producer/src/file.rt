@@ -18,12 +18,12 @@ impl Parts<'_> {
     ghost use Rattle.records.specs.Inside.Overwriting.{list_records};
     ghost use Rattle.records.specs.Inside.Writes.{Writes};
     ghost use Rattle.producer.specs.Producing.{terms_count, produced_length};
-    ghost use Rattle.producer.specs.Inside.Filing.{terms_most};
+    ghost use Rattle.producer.specs.Inside.Filing.{terms_bound};
     ghost use Rattle.producer.specs.Inside.Made.{tables_of, lists_of, made};
 
     // How many terms the lists have together: s^d for each term of d variables in each bit that has it, whatever the placement is.
     fn terms(&self) -> usize
-        ensures { (result ≡ terms_count self.now.rule.m self.now.rule.s (λ u. get_or self.now.words.now u 0)) × (result ≤ terms_most) }
+        ensures { (result ≡ terms_count self.now.rule.m self.now.rule.s (λ u. get_or self.now.words.now u 0)) × (result ≤ terms_bound) }
     {
         let mut terms = 0;
         for (u, word) in self.words[..power(self.rule.m)].iter().enumerate() {

@@ -20,9 +20,9 @@ words_lists m s place words = direct_lists m s place (λ u. get_or words u 0)
 abbrev pub words_file : ℕ → ℕ → (ℕ → ℕ) → List ℕ → List ℕ → List ℕ
 words_file m s place t words = one_stage_file m s t (words_lists m s place words)
 
--- no more terms than this are counted: so many for each term, and for each bit of a byte
-abbrev pub term_most : ℕ
-term_most = greatest_shares ^ greatest_width * 8
+-- no more terms than this are counted: so many for each word, which is a byte, and for all of them
+abbrev pub word_bound : ℕ
+word_bound = greatest_shares ^ greatest_width * 8
 
-abbrev pub terms_most : ℕ
-terms_most = greatest_points * term_most
+abbrev pub terms_bound : ℕ
+terms_bound = greatest_points * word_bound

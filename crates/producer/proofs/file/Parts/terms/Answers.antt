@@ -1,5 +1,5 @@
 use Rattle.std.proofs.Common.{rules}
-use Rattle.producer.proofs.Filing.{width_shifts, none_counted, term_fits, products_fit, word_fits, sum_fits, counted_more, all_counted, all_within}
+use Rattle.producer.proofs.Filing.{width_shifts, none_counted, term_fits, power_fits, word_fits, sum_fits, counted_more, all_counted, all_within}
 use Rattle.producer.proofs.file.Parts.terms.Goals as goal
 
 pub power-requires : goal.power-requires
@@ -12,7 +12,7 @@ pub overflow_cast-u : goal.overflow_cast-u
 overflow_cast-u c = search term_fits
 
 pub pow-requires : goal.pow-requires
-pow-requires c = search products_fit
+pow-requires c = search power_fits
 
 pub overflow_mul-terms : goal.overflow_mul-terms
 overflow_mul-terms c = search (rules, word_fits)
