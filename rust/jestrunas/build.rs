@@ -10,7 +10,7 @@ fn main() {
     let archive = folder.join("libjestrunas.a");
     println!("cargo::rerun-if-changed={}", archive.display());
     if !archive.exists() {
-        println!("cargo::warning={} is not there: run `tools/build jestrunas` first", archive.display());
+        println!("cargo::warning={} is not there: run `tools/build library` first", archive.display());
     }
     println!("cargo::rustc-link-search=native={}", folder.display());
     println!("cargo::rustc-link-lib=static=jestrunas");

@@ -21,7 +21,6 @@ use forecasts::workspace_for;
 use marks::clear;
 use reasons::Reason;
 use stages::{first_met, first_wrong, offending, tries};
-use std::error::Error;
 use std::fmt;
 use tables::chain_is_box;
 
@@ -44,15 +43,6 @@ impl Refusal {
         }
     }
 }
-
-/// The reason in words.
-impl fmt::Display for Refusal {
-    fn fmt<W: fmt::Write>(&self, f: &mut fmt::Formatter<W>) -> fmt::Result {
-        self.reason.fmt(f)
-    }
-}
-
-impl Error for Refusal {}
 
 impl From<ReadError> for Refusal {
     ghost use Rattle.std.specs.Prelude.{◌≡◌};

@@ -20,7 +20,7 @@ use Rattle.finite.proofs.Faults.{fault_here, fault_past, fault_none}
 use Rattle.anf.specs.Terms.{before}
 use Rattle.records.specs.Bytes.{u16_at, u32_at}
 use Rattle.records.specs.Inside.Terms.{terms as term_list}
-use Rattle.records.proofs.TermBytes.{terms_cons, count_is}
+use Rattle.records.proofs.TermBytes.{terms_cons, terms_length}
 use Rattle.design.specs.Reading.{kind_due, size_due, length_due, entry_fits, previous, term_fits, fault_at}
 use Rattle.design.specs.Inside.Framing.{frame_fault}
 use Rattle.design.specs.Limits.{Head}
@@ -117,7 +117,7 @@ none_passed b l bound e = record { j = 0; within = omega arith; fit = refl; kept
 
 module _ (b l : List ℕ) (bound : ℕ) (latest : Option ℕ) (w : Passed b bound latest l) where
   count : (length b - 4 * w.j) / 4 ≡ length l
-  count = ap (λ (x : ℕ). x / 4) (sym (length-drop (4 * w.j) b)) ∙ count_is (drop (4 * w.j) b) ∙ ap length (sym w.left)
+  count = ap (λ (x : ℕ). x / 4) (sym (length-drop (4 * w.j) b)) ∙ sym (terms_length (drop (4 * w.j) b)) ∙ ap length (sym w.left)
 
   -- none is left
   pub all_passed : l ≡ [] → true ≡ all (length b / 4) (term_fits b 0 bound)

@@ -31,10 +31,6 @@ module _ (f starts : List ℕ) (first n : ℕ) where
   unfolding lists_of
   lists_of_at i h = tabulate_at n _ i [] h
 
--- a body no longer than a list may be has fewer bytes than two bytes can count
-pub short_body : (f b : List ℕ) (start next : ℕ) → next ≤ start + 4 + 4 * greatest_terms → b ≡ body_at f start next → length b < 65536
-short_body f b start next h e = omega (arith, ap length e, length-take (next - 4 - start) (drop start f))
-
 pub stages_length : (f : List ℕ) (y : Layout) → Describes f y → length (meaning f).stages ≡ y.head.k
 stages_length f y d = let r = described d in r.formed.count ∙ sym r.k
 

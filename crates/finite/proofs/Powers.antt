@@ -1,14 +1,9 @@
 -- Powers of two. Assumes nothing.
 use mathlib.Core.Path.{◌≡◌, ap, ◌∙◌}
-use Prim.Native.Nat.{ℕ, ◌+◌, ◌-◌, ◌*◌, ◌%◌, ◌^◌, ◌<◌, ◌≤◌}
-use native.Mathlib.Nat.{one-mul, mul-mod_left}
+use Prim.Native.Nat.{ℕ, ◌+◌, ◌-◌, ◌%◌, ◌^◌, ◌≤◌}
+use native.Mathlib.Nat.{mul-mod_left}
 use native.Mathlib.Omega.{arith}
-use lib.Dec.{lit<}
-use lib.Pow.{pow-add, shl_exact}
-
--- as the code makes them: the shift loses no bit
-pub shifted : (e : ℕ) → e < 64 → 1 * 2 ^ e % 2 ^ 64 ≡ 2 ^ e
-shifted e h = shl_exact 1 e 64 (lit< tt) (omega arith) ∙ one-mul _
+use lib.Pow.{pow-add}
 
 -- from 2^3 on, a multiple of 8
 pub eights : (e : ℕ) → 3 ≤ e → 2 ^ e % 8 ≡ 0

@@ -232,13 +232,6 @@ first_is (suc n) p e = go (first_is n p) (any n p) refl (p n) refl e
     go ih false ea true eb k = rw (ea, eb) (le_refl (suc n), eb, ea)
     go ih false ea false eb k = absurd (false≢true k)
 
--- the lowest place that passes a test, where there is one
-pub first_some : (n : ℕ) (p : ℕ → Bool) → first n p < n → any n p ≡ true
-first_some n p l = ⊎_elim (λ e. e) (λ e. absurd (omega (arith, first_none n p e))) (true_or_false (any n p))
-
-pub first_past : (n : ℕ) (p : ℕ → Bool) → n ≤ first n p → any n p ≡ false
-first_past n p l = not_true_false _ (λ a. omega (arith, first_is n p a))
-
 -- ---- how many are tried
 
 module _ (n : ℕ) (p : ℕ → Bool) where

@@ -2,16 +2,13 @@
 use mathlib.Core.Path.{◌≡◌, refl, sym, ap, ◌∙◌}
 use mathlib.Core.Bool.{Bool, true, false}
 use mathlib.Core.List.{List, [], ◌∷◌}
-use Prim.Native.Nat.{ℕ, zero, suc, ◌+◌, ◌*◌, ◌/◌, ◌%◌, ◌^◌, ◌<◌, ◌≤◌}
-use native.Mathlib.Numerals.{towards_suc, unary_clauses}
-use native.Mathlib.Nat.{mul-le-mul_right}
+use Prim.Native.Nat.{ℕ, suc, ◌+◌, ◌*◌, ◌/◌, ◌%◌, ◌<◌, ◌≤◌}
+use native.Mathlib.Numerals.{towards_suc}
 use native.Mathlib.Omega.{arith}
 use lib.Dec.{eqb}
 use lib.Bits.{bit_and, bit_or, bit_xor, xor_zero_r, or_add_and}
 use lib.ListN.{length, get_or, take, drop, length-drop}
 use lib.Seq.{drop-cons}
-use mir.Syntax.{w64}
-use mir.Val.{Fits}
 use borrow.Author.Tests.{eqb-true, eq-eqb}
 use Rattle.std.specs.Int.{from_bool, w32, from_le_bytes}
 use Rattle.finite.specs.Tests.{pick}
@@ -44,39 +41,13 @@ pub terms_end : (l : List ℕ) (at : ℕ) → length l < at + 4 → terms (drop 
 terms_end l at h = terms_short (drop at l) (simp length-drop (omega arith))
 
 -- how many terms bytes stand for
-terms_length : (l : List ℕ) → length (terms l) ≡ length l / 4
+pub terms_length : (l : List ℕ) → length (terms l) ≡ length l / 4
 unfolding terms
 terms_length [] = refl
 terms_length (a ∷ []) = refl
 terms_length (a ∷ b ∷ []) = refl
 terms_length (a ∷ b ∷ c ∷ []) = refl
 terms_length (a ∷ b ∷ c ∷ d ∷ l) = let e = terms_length l in omega arith
-
--- term j
-terms_at : (l : List ℕ) (j : ℕ) → j < length (terms l) → u32_at l (4 * j) ≡ get_or (terms l) j 0
-unfolding terms u32_at
-terms_at [] j h = absurd (omega arith)
-terms_at (a ∷ []) j h = absurd (omega arith)
-terms_at (a ∷ b ∷ []) j h = absurd (omega arith)
-terms_at (a ∷ b ∷ c ∷ []) j h = absurd (omega arith)
-terms_at (a ∷ b ∷ c ∷ d ∷ l) zero h = refl
-terms_at (a ∷ b ∷ c ∷ d ∷ l) (suc j) h =
-    let e : 4 * suc j ≡ suc (suc (suc (suc (4 * j)))) = omega arith in
-    rw e (simp unary_clauses (simp unary_clauses at (terms_at l j (omega arith))))
-
--- it lies within the bytes
-module _ (l : List ℕ) (j : ℕ) (b : j < length (terms l)) where
-  pub term_there : (x : ℕ) → x ≤ 4 → x * j + 4 ≤ length l
-  term_there x h = omega (arith, terms_length l, mul-le-mul_right j h)
-
-  pub term_fits : (x : ℕ) → x ≤ 4 → length l < 2 ^ 64 → Fits w64 (x * j)
-  term_fits x h k = record { fits = omega (arith, term_there x h) }
-
-  pub term_is : (r : ℕ) → r ≡ u32_at l (4 * j) → r ≡ get_or (terms l) j 0
-  term_is r e = e ∙ terms_at l j b
-
-pub count_is : (l : List ℕ) → length l / 4 ≡ length (terms l)
-count_is l = sym (terms_length l)
 
 -- the four bytes of a number stand for it
 pub little_four : (n : ℕ) → little (n % 256) (n / 256 % 256) (n / 65536 % 256) (n / 16777216) ≡ n

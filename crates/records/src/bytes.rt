@@ -1,6 +1,6 @@
 // Numbers in a file, little-endian. A file and a place, and no slice from there: the place is what a fault names.
 ghost use Rattle.std.specs.Prelude.{◌≡◌, ◌+◌, ◌≤◌, length};
-ghost use Rattle.records.specs.Bytes.{u16_at, u32_at};
+ghost use Rattle.records.specs.Bytes.{u16_at};
 
 /// The number of two bytes at `at`.
 #[tactic(auto, unfolding(crate::specs::Bytes::u16_at))]
@@ -9,13 +9,4 @@ pub fn u16_at(file: &[u8], at: usize) -> u16
     ensures { result ≡ u16_at file.now at }
 {
     u16::from_le_bytes([file[at], file[at + 1]])
-}
-
-/// The number of four bytes at `at`.
-#[tactic(auto, unfolding(crate::specs::Bytes::u32_at))]
-pub fn u32_at(file: &[u8], at: usize) -> u32
-    requires { at + 4 ≤ length file.now }
-    ensures { result ≡ u32_at file.now at }
-{
-    u32::from_le_bytes([file[at], file[at + 1], file[at + 2], file[at + 3]])
 }

@@ -6,7 +6,7 @@ mod kind; // kind.rt: the kinds of records
 mod terms; // terms.rt: lists of terms as they stand in a file
 mod writer; // writer.rt: records written one behind the other
 
-pub use bytes::{u16_at, u32_at};
+pub use bytes::u16_at;
 pub use kind::Kind;
 use reasons::Reason;
 pub use terms::{Terms, TermsIter, stands_before};

@@ -1,9 +1,7 @@
 // Lists of terms as they stand in a file, four bytes each.
-ghost use Rattle.std.specs.Prelude.{◌≡◌, ◌<◌, length, get_or};
+ghost use Rattle.std.specs.Prelude.{◌≡◌};
 ghost use Rattle.anf.specs.Terms.{before, value_at};
 ghost use Rattle.records.specs.Inside.Terms.{terms, terms_of, left};
-
-use super::bytes::u32_at;
 
 /// Whether the term `a` stands before the term `b` in a list: the one function for the order of terms (docs/DECISIONS.md), which is no order of numbers to
 /// its readers.
@@ -26,21 +24,6 @@ impl<'a> Terms<'a> {
         ensures { terms_of result ≡ terms bytes.now }
     {
         Terms { bytes }
-    }
-
-    /// How many terms it has.
-    pub fn len(&self) -> usize
-        ensures { result ≡ length (terms_of self.now) }
-    {
-        self.bytes.len() / 4
-    }
-
-    /// Term `j`.
-    pub fn term(&self, j: usize) -> u32
-        requires { j < length (terms_of self.now) }
-        ensures { result ≡ get_or (terms_of self.now) j 0 }
-    {
-        u32_at(self.bytes, 4 * j)
     }
 
     /// Goes over its terms, from the first on.

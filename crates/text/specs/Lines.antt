@@ -1,5 +1,5 @@
 -- What a line of text is read as. A line is a list of bytes, and each reader takes what it reads from its front. No promise rests on this: it is for the
--- programs.
+-- program `bench_designs`.
 use Rattle.std.specs.Prelude.{ℕ, zero, suc, ◌+◌, ◌*◌, ◌-◌, Bool, true, false, ◌&&◌, if◌then◌else◌, List, [], ◌∷◌, drop, min, nat_le, nat_lt, ◌==◌, Option, Some, None, is_some}
 
 -- ---- Spaces and words
@@ -75,11 +75,6 @@ after_entries zero wide l = l
 after_entries (suc n) wide l = if is_some (entry_of wide l) then after_entries n wide (after_entry wide l) else l
 
 -- ---- Lines
-
--- whether a line ends here
-abbrev pub ends : List ℕ → Bool
-ends [] = true
-ends (b ∷ l) = b == 10
 
 -- what follows the line in front
 abbrev pub after_line : List ℕ → List ℕ

@@ -1,4 +1,4 @@
-// Requests in text, for the programs: a line `m s TABLE`, each entry of the table one hexadecimal digit,
+// Requests in text, for the program `bench_designs`: a line `m s TABLE`, each entry of the table one hexadecimal digit,
 // or two digits where m is above 4, with a placement behind it or none, each byte one digit; and a line `file HEX`.
 #![tactic(auto)]
 
@@ -13,7 +13,6 @@ ghost use Rattle.text.specs.Lines.{
   after_entry,
   entries_of,
   after_entries,
-  ends,
   after_line,
   width_of,
   shares_of,
@@ -147,16 +146,6 @@ impl<'a> Line<'a> {
             }
         }
         out.len()
-    }
-
-    /// Whether nothing is left of the line.
-    pub fn is_at_end(&self) -> bool
-        ensures { result ≡ ends self.now }
-    {
-        match self.rest {
-            [] => true,
-            [b, ..] => *b == b'\n',
-        }
     }
 
     /// Takes the request `m s TABLE` in front, and the spaces behind it; its entries go to `table`. A number that is left out is 0, one above 999 is 999.

@@ -231,9 +231,6 @@ module _ (ls : List (List ℕ)) (x : ℕ) where
     unfolding outputs_from
     block_ahead = record { kept = λ n. let q : (x + 1) / 64 ≡ x / 64 = omega arith in rw q e }
 
-pub ahead_start : (ls : List (List ℕ)) (words : List ℕ) → Ahead ls 0 words
-ahead_start ls words = record { kept = λ n. absurd (n refl) }
-
 -- ---- what is left of the outputs
 
 div-pos : (x b : ℕ) → (x / b ≡ 0 → ⊥) → b ≤ x

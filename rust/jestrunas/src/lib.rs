@@ -161,11 +161,18 @@ pub struct Refusal {
     pub trials: usize,
 }
 
-impl fmt::Display for Refusal {
-    /// The three numbers, as the verdict program prints them, and what they mean.
+impl Refusal {
+    /// What it says, in words, without its three numbers.
+    pub fn meaning(&self) -> impl fmt::Display + '_ {
+        Meaning(self)
+    }
+}
+
+struct Meaning<'a>(&'a Refusal);
+
+impl fmt::Display for Meaning<'_> {
     fn fmt(&self, f: &mut fmt::Formatter<'_>) -> fmt::Result {
-        let Refusal { reason, place, component, .. } = self;
-        write!(f, "{} {place} {component}: ", reason.number())?;
+        let Refusal { reason, place, component, .. } = self.0;
         match reason {
             Reason::CutShort => write!(f, "the record at byte {place} is cut short"),
             Reason::WrongKind => write!(f, "the kind of the record at byte {place} is not the one due"),
@@ -179,6 +186,14 @@ impl fmt::Display for Refusal {
             Reason::NotUniform => write!(f, "stage {place} is not uniform"),
             other => other.fmt(f),
         }
+    }
+}
+
+impl fmt::Display for Refusal {
+    /// The three numbers, as the verdict program prints them, and what they mean.
+    fn fmt(&self, f: &mut fmt::Formatter<'_>) -> fmt::Result {
+        let Refusal { reason, place, component, .. } = self;
+        write!(f, "{} {place} {component}: {}", reason.number(), self.meaning())
     }
 }
 

@@ -1,0 +1,91 @@
+//! A design taken apart, and its file.
+
+use jestrunas::Refusal;
+
+/// A stage: its table, and the list of terms of each bit of each component. The list of bit b of component j is at (j - 1) * m + b, its
+/// terms rising.
+#[derive(Clone, Debug, PartialEq, Eq)]
+pub struct Stage {
+    pub table: Vec<u8>,
+    pub lists: Vec<Vec<u32>>,
+}
+
+/// A design that a file can hold.
+#[derive(Clone, Debug, PartialEq, Eq)]
+pub struct Design {
+    pub m: usize,
+    pub s: usize,
+    pub s_box: Vec<u8>,
+    pub stages: Vec<Stage>,
+}
+
+/// The most stages of a design.
+pub const MOST_STAGES: usize = 4;
+
+/// The most terms of a list.
+pub const MOST_TERMS: usize = 4096;
+
+/// The body of the record in front of the rest of a file that reads.
+fn body<'a>(rest: &mut &'a [u8]) -> &'a [u8] {
+    let length = usize::from(u16::from_le_bytes([rest[0], rest[1]]));
+    let (record, behind) = rest.split_at(4 + length);
+    *rest = behind;
+    &record[4..]
+}
+
+fn record(file: &mut Vec<u8>, kind: u8, body: &[u8]) {
+    let length = u16::try_from(body.len()).expect("no body of a design is longer than 16,384 bytes");
+    file.extend(length.to_le_bytes());
+    file.extend([kind, 0]);
+    file.extend(body);
+}
+
+impl Stage {
+    /// Whether a component depends on a share, both counted from 0. Each function has one list, so it depends on the variables that its
+    /// terms name, and on no other.
+    pub fn depends(&self, m: usize, component: usize, share: usize) -> bool {
+        let variables = ((1 << m) - 1) << (share * m);
+        self.lists[component * m..][..m].iter().flatten().any(|term| term & variables != 0)
+    }
+
+    /// What the components sum to at a sharing: share j is the bits from (j - 1) * m on.
+    pub fn sum(&self, m: usize, sharing: u32) -> u8 {
+        let is_one = |list: &[u32]| list.iter().filter(|&term| term & !sharing == 0).count() % 2 == 1;
+        self.lists.iter().enumerate().filter(|(_, list)| is_one(list)).fold(0, |sum, (i, _)| sum ^ 1 << (i % m))
+    }
+}
+
+impl Design {
+    /// The design that a file holds, or why it does not read.
+    pub fn read(file: &[u8]) -> Result<Design, Refusal> {
+        jestrunas::read(file)?;
+        let rest = &mut &file[..];
+        let head = body(rest);
+        let [m, s, k] = [0, 1, 2].map(|i| usize::from(head[i]));
+        let s_box = body(rest).to_vec();
+        let term = |bytes: &[u8]| u32::from_le_bytes([bytes[0], bytes[1], bytes[2], bytes[3]]);
+        let stages = (0..k)
+            .map(|_| Stage {
+                table: body(rest).to_vec(),
+                lists: (0..m * s).map(|_| body(rest).chunks(4).map(term).collect()).collect(),
+            })
+            .collect();
+        Ok(Design { m, s, s_box, stages })
+    }
+
+    /// The file of the design.
+    pub fn file(&self) -> Vec<u8> {
+        let mut file = Vec::new();
+        record(&mut file, 1, &[self.m as u8, self.s as u8, self.stages.len() as u8]);
+        record(&mut file, 2, &self.s_box);
+        for stage in &self.stages {
+            record(&mut file, 2, &stage.table);
+            for list in &stage.lists {
+                let terms: Vec<u8> = list.iter().flat_map(|term| term.to_le_bytes()).collect();
+                record(&mut file, 3, &terms);
+            }
+        }
+        record(&mut file, 4, &[]);
+        file
+    }
+}

@@ -1,0 +1,107 @@
+//! Files that are read and written; `-` is standard input or output.
+
+use crate::failure::Failure;
+use std::ffi::{OsStr, OsString};
+use std::fs::{self, File};
+use std::io::{self, ErrorKind, Read, Write};
+use std::os::unix::fs::MetadataExt;
+use std::path::Path;
+
+/// One byte more than the longest file that reads, which has 5 bits, 4 shares, 4 stages and 4,096 terms in each list. What is read of a
+/// longer file is refused at the same place as the whole.
+pub const DESIGN: u64 = 1_311_232;
+
+/// The most bytes of a text: more than `explain` writes for the longest file.
+pub const TEXT: u64 = 1 << 26;
+
+/// A name as it is shown, in one line.
+pub fn shown(name: &OsStr) -> String {
+    let mut shown = String::new();
+    for c in name.to_string_lossy().chars() {
+        if c.is_control() {
+            shown.extend(c.escape_debug());
+        } else {
+            shown.push(c);
+        }
+    }
+    shown
+}
+
+fn is_standard(name: &OsStr) -> bool {
+    name == "-"
+}
+
+/// The first bytes of a file, as many as the most.
+pub fn input(name: &OsStr, most: u64) -> io::Result<Vec<u8>> {
+    let mut bytes = Vec::new();
+    if is_standard(name) {
+        io::stdin().lock().take(most).read_to_end(&mut bytes)?;
+    } else {
+        File::open(name)?.take(most).read_to_end(&mut bytes)?;
+    }
+    Ok(bytes)
+}
+
+/// Refuses to read standard input twice.
+pub fn each_once(names: &[OsString]) -> Result<(), Failure> {
+    if names.iter().filter(|name| is_standard(name)).count() > 1 {
+        return Err(Failure::Misused("standard input can be read once".to_owned()));
+    }
+    Ok(())
+}
+
+/// Device and inode of what a name stands for, if there is such a file.
+fn identity(name: &OsStr) -> Option<(u64, u64)> {
+    let path = if is_standard(name) { Path::new("/dev/stdin") } else { Path::new(name) };
+    fs::metadata(path).ok().map(|data| (data.dev(), data.ino()))
+}
+
+/// Writes bytes to a draft beside the file, which takes its place once all are written, and else goes.
+fn replace(path: &Path, bytes: &[u8]) -> io::Result<()> {
+    // a link stays one, and the file that it names is replaced
+    let path = fs::canonicalize(path).unwrap_or_else(|_| path.to_owned());
+    let old = match File::options().write(true).open(&path) {
+        Ok(old) => Some(old.metadata()?.permissions()),
+        Err(error) if error.kind() == ErrorKind::NotFound => None,
+        // one that may not be written is not replaced
+        Err(error) => return Err(error),
+    };
+    let mut name = OsString::from(".");
+    name.push(path.file_name().ok_or(ErrorKind::InvalidInput)?);
+    name.push(format!(".{}", std::process::id()));
+    let draft = path.with_file_name(name);
+    let mut file = File::create_new(&draft)?;
+    let permitted = old.map_or(Ok(()), |old| file.set_permissions(old));
+    let written = permitted.and_then(|()| file.write_all(bytes)).and_then(|()| fs::rename(&draft, &path));
+    if written.is_err() {
+        fs::remove_file(&draft)?;
+    }
+    written
+}
+
+/// Writes a file as a whole or not at all, and over none of the inputs.
+pub fn output(name: &OsStr, bytes: &[u8], inputs: &[&OsStr]) -> Result<(), Failure> {
+    if is_standard(name) {
+        return print(bytes);
+    }
+    let there = identity(name);
+    if there.is_some() && inputs.iter().any(|input| identity(input) == there) {
+        return Err(Failure::unavailable(name, "it is an input, and nothing is written over an input"));
+    }
+    let written = match fs::metadata(name) {
+        // a device or a pipe has no content that could be cut off
+        Ok(data) if !data.is_file() => File::options().write(true).open(name).and_then(|mut file| file.write_all(bytes)),
+        _ => replace(Path::new(name), bytes),
+    };
+    written.map_err(|error| Failure::unavailable(name, error))
+}
+
+/// Writes to standard output.
+pub fn print(bytes: &[u8]) -> Result<(), Failure> {
+    let mut out = io::stdout().lock();
+    match out.write_all(bytes).and_then(|()| out.flush()) {
+        Ok(()) => Ok(()),
+        Err(error) if error.kind() == ErrorKind::BrokenPipe => Err(Failure::Unread),
+        Err(error) => Err(Failure::Unavailable(format!("standard output: {error}"))),
+    }
+}

@@ -1,0 +1,83 @@
+//! A design as text.
+
+use crate::design::{Design, Stage};
+use std::fmt::Write;
+
+/// No line is longer, but where one term is.
+const WIDTH: usize = 100;
+
+/// Writes parts one after the other, and goes on in a line of its own where one would pass the width.
+fn wrapped(text: &mut String, start: &str, parts: impl Iterator<Item = String>) {
+    let indent = start.chars().count();
+    text.push_str(start);
+    let mut column = indent;
+    for part in parts {
+        let width = part.chars().count();
+        if column + width > WIDTH && column > indent {
+            let _ = write!(text, "\n{:indent$}", "");
+            column = indent;
+        }
+        text.push_str(&part);
+        column += width;
+    }
+    text.push('\n');
+}
+
+fn table(text: &mut String, name: &str, entries: &[u8]) {
+    wrapped(text, name, entries.iter().map(|entry| format!(" {entry}")));
+}
+
+fn term(m: usize, term: u32) -> String {
+    if term == 0 {
+        return "1".to_owned();
+    }
+    let variables = (0..u32::BITS as usize).filter(|bit| term >> bit & 1 == 1);
+    variables.map(|bit| format!("x{}[{}]", bit / m + 1, bit % m)).collect::<Vec<_>>().join("·")
+}
+
+fn formula(text: &mut String, start: &str, m: usize, list: &[u32]) {
+    if list.is_empty() {
+        return wrapped(text, start, [" = 0".to_owned()].into_iter());
+    }
+    let sign = |i| if i == 0 { " = " } else { " + " };
+    wrapped(text, start, list.iter().enumerate().map(|(i, &number)| format!("{}{}", sign(i), term(m, number))));
+}
+
+/// The text of a design.
+pub fn written(design: &Design) -> String {
+    let Design { m, s, s_box, stages } = design;
+    let mut text = format!("m {m}\ns {s}\n");
+    table(&mut text, "S", s_box);
+    for stage in stages {
+        text.push_str("\nstage\n");
+        table(&mut text, "G", &stage.table);
+        for (i, list) in stage.lists.iter().enumerate() {
+            formula(&mut text, &format!("y{}[{}]", i / m + 1, i % m), *m, list);
+        }
+    }
+    text
+}
+
+/// The components of a stage against the shares on which they depend.
+fn grid(text: &mut String, design: &Design, stage: &Stage) {
+    let Design { m, s, .. } = *design;
+    let shares: String = (1..=s).map(|share| format!(" x{share}")).collect();
+    let _ = writeln!(text, "#    {shares}");
+    for component in 0..s {
+        let depends: Vec<bool> = (0..s).map(|share| stage.depends(m, component, share)).collect();
+        let marks: String = depends.iter().map(|&depends| if depends { "  x" } else { "  ." }).collect();
+        let all = if depends.contains(&false) { "" } else { "  every share" };
+        let _ = writeln!(text, "#  y{}{marks}{all}", component + 1);
+    }
+}
+
+/// The text of a design, then, as comments, for each stage the shares on which its components depend, and the verdict.
+pub fn explained(design: &Design, verdict: &str) -> String {
+    let mut text = written(design);
+    for (i, stage) in design.stages.iter().enumerate() {
+        let _ = writeln!(text, "\n# stage {}: each component, and the shares on which it depends", i + 1);
+        grid(&mut text, design, stage);
+    }
+    let _ = writeln!(text, "\n# verdict: {verdict}");
+    text
+}
