@@ -2,20 +2,23 @@
 -- the code has it, or what a call's contract says of its result.
 -- Assumes nothing.
 use Prim.Native.Nat.{ℕ, zero, suc, ◌+◌, ◌*◌, ◌-◌, ◌/◌, ◌%◌, ◌^◌, ◌≤◌, ◌<◌}
-use mathlib.Core.Path.{◌≡◌, refl, sym, ap, ◌∙◌}
+use mathlib.Core.Path.{◌≡◌, refl, sym, ap, ap₂, ◌∙◌}
 use mathlib.Core.List.{List, ◌∷◌, []}
-use mathlib.Core.Bool.{Bool, true, false, not, ◌||◌}
+use mathlib.Core.Bool.{Bool, true, false, not, ◌&&◌, ◌||◌}
 use mathlib.Core.Logic.{◌⊎◌, inl, inr}
 use native.Mathlib.Numerals.{towards_suc}
 use native.Mathlib.Omega.{arith}
 use borrow.Author.Tests.{lt-ltb, le-ltb, eq-eqb, ne_eqb, not-true, not-false}
 use lib.ListN.{length, get_or, take, drop, length-drop}
+use lib.Bits.{bit_or}
 use lib.Dec.{leb, eqb, ltb}
 use Rattle.std.specs.Prelude.{Option, None, Some}
 use Rattle.std.specs.Option.{option_map_or}
+use Rattle.std.proofs.lemmas.Nat.{pow_pos}
 use Rattle.finite.specs.Tests.{all}
 use Rattle.finite.specs.Faults.{first_fault}
-use Rattle.finite.proofs.Testing.{all_fails, all_more}
+use Rattle.finite.proofs.Testing.{all_step, and_pairs}
+use Rattle.finite.proofs.Powers.{none_above, union_below}
 use Rattle.finite.proofs.Faults.{fault_here, fault_past, fault_none}
 use Rattle.anf.specs.Terms.{before}
 use Rattle.records.specs.Bytes.{u16_at, u32_at}
@@ -32,7 +35,7 @@ use Rattle.records.specs.Kinds.{code}
 use Rattle.records.specs.declared.kind.Kind.{Kind}
 use Rattle.records.specs.declared.kind.Kind.TheVariants as kinds
 use Rattle.design.proofs.Bodies.{length_in, entries_in, terms_in}
-use Rattle.design.proofs.Records.{framed, term_falls, term_high, term_fits_lem, fault_frame, fault_body, fault_table, fault_list, body_4, kind_later}
+use Rattle.design.proofs.Records.{framed, fault_frame, fault_body, fault_table, fault_list, body_4, kind_later}
 
 list_code : (kind : Kind) → code kind ≡ 3 → kind ≡ kinds.List
 list_code kinds.Head e = absurd (omega (arith, e))
@@ -89,7 +92,7 @@ module _ (f : List ℕ) (at kind size : ℕ) where
       pub wrong_length : not b ≡ true → 3 ≡ frame_fault f at kind size
       wrong_length h = sym (past_kind ∙ fault_here _ 3 _ 0 (ap not (due ∙ not-true b h)))
 
--- ---- `terms_fit`: b is the body, t its term j, u whether that rises
+-- ---- `terms_fit`: b is the body, its terms are due below 2^n, t is its term j, u whether that rises
 
 -- the term before term j, if there is one
 pub term_before : List ℕ → ℕ → Option ℕ
@@ -103,33 +106,33 @@ rises_at b (suc j) t =
     let e : 4 * j ≡ 0 + 4 * j = omega arith in
     simp (ne_eqb (suc j) 0 (λ z. absurd (omega (arith, z)))) (ap (λ (x : ℕ). before (u32_at b x) t) e)
 
--- the terms passed fit, `latest` is the last of them, and l are those that are left
-pub record Passed (b : List ℕ) (bound : ℕ) (latest : Option ℕ) (l : List ℕ) : Type 0 where
+-- of the terms passed, `rise` says whether they rise, `together` is what they have together, and `latest` is the last of them; l are those that are left
+pub record Passed (b : List ℕ) (n : ℕ) (latest : Option ℕ) (rise : Bool) (together : ℕ) (l : List ℕ) : Type 0 where
   pub j : ℕ
   pub within : j ≤ length b / 4
-  pub fit : all j (term_fits b 0 bound) ≡ true
+  pub fit : all j (term_fits b 0 (2 ^ n)) ≡ (rise && ltb together (2 ^ n))
   pub kept : latest ≡ term_before b j
   pub left : l ≡ term_list (drop (4 * j) b)
 
-pub none_passed : (b l : List ℕ) (bound : ℕ) → l ≡ term_list b → Passed b bound None l
+pub none_passed : (b l : List ℕ) (n : ℕ) → l ≡ term_list b → Passed b n None true 0 l
 unfolding all term_before
-none_passed b l bound e = record { j = 0; within = omega arith; fit = refl; kept = refl; left = e }
+none_passed b l n e = record { j = 0; within = omega arith; fit = sym (lt-ltb _ _ (pow_pos n)); kept = refl; left = e }
 
-module _ (b l : List ℕ) (bound : ℕ) (latest : Option ℕ) (w : Passed b bound latest l) where
+module _ (b l : List ℕ) (n : ℕ) (latest : Option ℕ) (rise : Bool) (together : ℕ) (w : Passed b n latest rise together l) where
   count : (length b - 4 * w.j) / 4 ≡ length l
   count = ap (λ (x : ℕ). x / 4) (sym (length-drop (4 * w.j) b)) ∙ sym (terms_length (drop (4 * w.j) b)) ∙ ap length (sym w.left)
 
   -- none is left
-  pub all_passed : l ≡ [] → true ≡ all (length b / 4) (term_fits b 0 bound)
+  pub all_passed : l ≡ [] → (rise && eqb (together / 2 ^ n) 0) ≡ all (length b / 4) (term_fits b 0 (2 ^ n))
   all_passed e =
-      let n : (length b - 4 * w.j) / 4 ≡ 0 = count ∙ ap length e in
-      let q : w.j ≡ length b / 4 = omega (arith, w.within, n) in
-      sym (rw q at w.fit)
+      let z : (length b - 4 * w.j) / 4 ≡ 0 = count ∙ ap length e in
+      let q : w.j ≡ length b / 4 = omega (arith, w.within, z) in
+      ap (λ (x : Bool). rise && x) (none_above n together) ∙ sym (rw q at w.fit)
 
   -- the term t is the first of those that are left
   module _ (t : ℕ) (r : List ℕ) (e : l ≡ t ∷ r) where
     stands : w.j < length b / 4
-    stands = let n : (length b - 4 * w.j) / 4 ≡ suc (length r) = count ∙ ap length e in omega (arith, n)
+    stands = let z : (length b - 4 * w.j) / 4 ≡ suc (length r) = count ∙ ap length e in omega (arith, z)
 
     first : t ∷ r ≡ u32_at b (4 * w.j) ∷ term_list (drop (4 * w.j + 4) b)
     first = sym e ∙ w.left ∙ terms_cons b (4 * w.j) (omega (arith, stands))
@@ -148,24 +151,21 @@ module _ (b l : List ℕ) (bound : ℕ) (latest : Option ℕ) (w : Passed b boun
     unfolding term_before
     latest_here = simp towards_suc (ap Some (ap (λ (x : List ℕ). get_or x 0 0) first))
 
-    pub term_beyond : bound ≤ t → false ≡ all (length b / 4) (term_fits b 0 bound)
-    term_beyond q = sym (all_fails _ _ w.j stands (term_high _ _ _ _ (rw here at q)))
-
     module _ (u : Bool) (eu : u ≡ option_map_or (λ a. before a t) latest true) where
-      rise : (eqb w.j 0 || before (previous b 0 w.j) (u32_at b (0 + 4 * w.j))) ≡ u
-      rise = sym (rw here at (eu ∙ ap (λ (o : Option ℕ). option_map_or (λ a. before a t) o true) w.kept ∙ rises_at b w.j t))
+      rises_here : u ≡ (eqb w.j 0 || before (previous b 0 w.j) (u32_at b (0 + 4 * w.j)))
+      rises_here = rw here at (eu ∙ ap (λ (o : Option ℕ). option_map_or (λ a. before a t) o true) w.kept ∙ rises_at b w.j t)
 
-      pub term_no_rise : not u ≡ true → false ≡ all (length b / 4) (term_fits b 0 bound)
-      term_no_rise q = sym (all_fails _ _ w.j stands (term_falls _ _ _ _ (rise ∙ not-true u q)))
+      fits_here : (u && ltb t (2 ^ n)) ≡ term_fits b 0 (2 ^ n) w.j
+      unfolding term_fits
+      fits_here = rw (rises_here, here) refl
 
-      pub term_more : not u ≡ false → t < bound → Passed b bound (Some t) r
-      term_more q k = record {
-        j = w.j + 1;
-        within = omega (arith, stands);
-        fit = all_more _ _ w.fit (term_fits_lem _ _ _ _ (rise ∙ not-false u q) (rw here at k));
-        kept = latest_here;
-        left = rest;
-      }
+      fit_more : all (w.j + 1) (term_fits b 0 (2 ^ n)) ≡ ((rise && u) && ltb (bit_or together t) (2 ^ n))
+      fit_more =
+          all_step w.j (term_fits b 0 (2 ^ n)) ∙ ap₂ ◌&&◌ w.fit (sym fits_here) ∙ and_pairs rise (ltb together (2 ^ n)) u (ltb t (2 ^ n))
+          ∙ ap (λ (x : Bool). (rise && u) && x) (sym (union_below n together t))
+
+      pub term_more : Passed b n (Some t) (rise && u) (bit_or together t) r
+      term_more = record { j = w.j + 1; within = omega (arith, stands); fit = fit_more; kept = latest_here; left = rest }
 
 -- ---- `faultless`: k is the record's kind, z its size, b the body, p the bound, t whether the body passes
 
@@ -184,8 +184,8 @@ module _ (f : List ℕ) (h : Head) (i at : ℕ) (k : Kind) (ek : code k ≡ kind
     no_body_fault l q =
         sym (fault_body f h i at (code k) z ek ez (sym n) ∙ body_4 _ _ _ _ _ (λ e. kind_later h i l (sym ek ∙ e)) (outer 2 (omega arith) (omega arith) q) (outer 3 (omega arith) (omega arith) q))
 
-    module _ (p : ℕ) (t : Bool) where
-      module _ (q : k ≡ kinds.Table) (ep : p ≡ 2 ^ h.m) (et : t ≡ entries_below b p) where
+    module _ (t : Bool) where
+      module _ (p : ℕ) (q : k ≡ kinds.Table) (ep : p ≡ 2 ^ h.m) (et : t ≡ entries_below b p) where
         entries : t ≡ all (u16_at f at) (entry_fits f (at + 4) p)
         entries = et ∙ entries_in f b (at + 4) (u16_at f at) eb there p
 
@@ -195,12 +195,12 @@ module _ (f : List ℕ) (h : Head) (i at : ℕ) (k : Kind) (ek : code k ≡ kind
         pub table_bad : t ≡ false → 5 ≡ fault_at f h i at
         table_bad e = sym (fault_table f h i at (code k) z ek ez (sym n) refl (ap code q) ep entries e)
 
-      module _ (q : k ≡ kinds.List) (bits : ℕ) (es : bits ≡ h.m * h.s) (eq : p ≡ 2 ^ bits) (et : t ≡ all (length b / 4) (term_fits b 0 p)) where
-        ep : p ≡ 2 ^ (h.m * h.s)
-        ep = eq ∙ ap (λ (x : ℕ). 2 ^ x) es
+      module _ (q : k ≡ kinds.List) (bits : ℕ) (es : bits ≡ h.m * h.s) (et : t ≡ all (length b / 4) (term_fits b 0 (2 ^ bits))) where
+        ep : 2 ^ bits ≡ 2 ^ (h.m * h.s)
+        ep = ap (λ (x : ℕ). 2 ^ x) es
 
-        terms : t ≡ all (u16_at f at / 4) (term_fits f (at + 4) p)
-        terms = et ∙ terms_in f b (at + 4) (u16_at f at) eb there p
+        terms : t ≡ all (u16_at f at / 4) (term_fits f (at + 4) (2 ^ bits))
+        terms = et ∙ terms_in f b (at + 4) (u16_at f at) eb there (2 ^ bits)
 
         pub list_good : t ≡ true → 0 ≡ fault_at f h i at
         list_good e = sym (fault_list f h i at (code k) z ek ez (sym n) refl (ap code q) ep terms e)

@@ -11,7 +11,7 @@ use lib.Dec.{eqb, lit<}
 use mathlib.Core.Logic.{⊎_elim, ◌⊎◌, inl, inr}
 use Rattle.finite.specs.Tests.{pick, all}
 use Rattle.finite.specs.Faults.{first_fault}
-use Rattle.finite.proofs.Testing.{and_false_right, pick_twice, pick_not}
+use Rattle.finite.proofs.Testing.{pick_twice, pick_not}
 use Rattle.finite.proofs.Faults.{no_fault, fault_front, fault_past}
 use Rattle.anf.specs.Terms.{before}
 use Rattle.records.specs.Bytes.{byte, u16_at, u32_at}
@@ -39,14 +39,6 @@ module _ (f : List ℕ) (start bound x : ℕ) where
   entry_not e = ltb-false _ _ e
 
 module _ (f : List ℕ) (start bound j : ℕ) where
-  pub term_falls : (eqb j 0 || before (previous f start j) (u32_at f (start + 4 * j))) ≡ false → term_fits f start bound j ≡ false
-  unfolding term_fits
-  term_falls h = simp h
-
-  pub term_high : bound ≤ u32_at f (start + 4 * j) → term_fits f start bound j ≡ false
-  unfolding term_fits
-  term_high h = and_false_right (eqb j 0 || before (previous f start j) (u32_at f (start + 4 * j))) _ (le-ltb _ _ h)
-
   pub term_fits_lem : (eqb j 0 || before (previous f start j) (u32_at f (start + 4 * j))) ≡ true → u32_at f (start + 4 * j) < bound → term_fits f start bound j ≡ true
   unfolding term_fits
   term_fits_lem h l = simp (h, lt-ltb _ _ l)

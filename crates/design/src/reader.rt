@@ -1,6 +1,6 @@
 // Reading: the tests of each record in the published order, and the walk over all records.
 // They take the file and a place, and no slice from there: the place is what a fault names.
-ghost use Rattle.std.specs.Prelude.{◌≡◌, ◌+◌, ◌*◌, ◌/◌, ◌≤◌, ◌<◌, true, length, take, drop, IfOk};
+ghost use Rattle.std.specs.Prelude.{◌≡◌, ◌+◌, ◌*◌, ◌/◌, ◌^◌, ◌≤◌, ◌<◌, true, length, take, drop, IfOk};
 ghost use Rattle.std.specs.Option.{option_map_or};
 ghost use Rattle.finite.specs.Tests.{all};
 ghost use Rattle.anf.specs.Terms.{before};
@@ -15,7 +15,6 @@ ghost use Rattle.design.specs.Answers.{layout_read};
 
 use super::{DesignFile, GREATEST_RECORDS, Head, ReadError};
 use anf::entries_below;
-use finite::power;
 use reasons::Reason;
 use records::{Kind, Terms, stands_before, u16_at};
 
@@ -69,21 +68,21 @@ fn rises(latest: Option<u32>, t: u32) -> bool
     }
 }
 
-// Whether the terms of a list's body are all below `bound` and strictly rise.
-fn terms_fit(body: &[u8], bound: u32) -> bool
-    ensures { result ≡ all (length body.now / 4) (term_fits body.now 0 bound) }
+// Whether the terms of a list's body are all below 2^bits and strictly rise. Each term is looked at, whatever came before it, so that no turn waits for a test:
+// they are below 2^bits when all that they have together is.
+fn terms_fit(body: &[u8], bits: usize) -> bool
+    requires { bits < 32 }
+    ensures { result ≡ all (length body.now / 4) (term_fits body.now 0 (2 ^ bits)) }
 {
     let mut latest: Option<u32> = None;
+    let mut rise = true;
+    let mut together = 0u32;
     for t in Terms::new(body).iter() {
-        if !rises(latest, t) {
-            return false;
-        }
-        if bound <= t {
-            return false;
-        }
+        rise &= rises(latest, t);
+        together |= t;
         latest = Some(t);
     }
-    true
+    rise & (together >> bits == 0)
 }
 
 // The length of the body of record `i`, which starts at `at`, where the record has no fault.
@@ -102,7 +101,7 @@ fn faultless(file: &[u8], head: Head, i: usize, at: usize) -> Result<usize, Reas
             Err(Reason::EntryTooLarge)
         }
         Kind::List => {
-            if terms_fit(body, power(head.share_bits()) as u32) {
+            if terms_fit(body, head.share_bits()) {
                 return Ok(body.len());
             }
             Err(Reason::BadTerm)

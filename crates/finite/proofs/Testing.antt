@@ -52,6 +52,12 @@ pub and_false_right : (a b : Bool) → b ≡ false → (a && b) ≡ false
 and_false_right true b e = e
 and_false_right false b e = refl
 
+pub and_pairs : (a b c d : Bool) → ((a && b) && (c && d)) ≡ ((a && c) && (b && d))
+and_pairs true true c d = refl
+and_pairs true false true d = refl
+and_pairs true false false d = refl
+and_pairs false b c d = refl
+
 pub or_left : (a b : Bool) → a ≡ true → (a || b) ≡ true
 or_left true b e = refl
 or_left false b e = absurd (false≢true e)
@@ -161,9 +167,6 @@ all_and n p q =
 pub all_step : (n : ℕ) (p : ℕ → Bool) → all (n + 1) p ≡ (all n p && p n)
 unfolding all
 all_step n p = rw add-one refl
-
-pub all_more : (n : ℕ) (p : ℕ → Bool) → all n p ≡ true → p n ≡ true → all (n + 1) p ≡ true
-all_more n p a h = all_step n p ∙ and_intro a h
 
 pub any_at : (n : ℕ) (p : ℕ → Bool) (i : ℕ) → i < n → p i ≡ true → any n p ≡ true
 unfolding any

@@ -1,5 +1,5 @@
 use Rattle.std.proofs.Common.{◌∙◌}
-use Rattle.design.proofs.Faults.{none_passed, all_passed, term_no_rise, term_beyond, term_more}
+use Rattle.design.proofs.Faults.{none_passed, all_passed, term_more}
 use Rattle.design.proofs.reader.terms_fit.Goals as goal
 
 pub loop-t-init : goal.loop-t-init
@@ -7,12 +7,6 @@ loop-t-init c = rw c.into_iter-t-iterator.ensures.into_iter_gives (none_passed _
 
 pub loop-t-preserved : goal.loop-t-preserved
 loop-t-preserved c = let e = c.in-Some.ensures.steps in search term_more
-
-pub returns-then-not-rises : goal.returns-then-not-rises
-returns-then-not-rises c = let e = c.in-Some.ensures.steps in search term_no_rise
-
-pub returns-then-bound-t : goal.returns-then-bound-t
-returns-then-bound-t c = let e = c.in-Some.ensures.steps in search term_beyond
 
 pub returns : goal.returns
 returns c = let e = c.in-None.ensures.steps in search all_passed
