@@ -2,6 +2,7 @@
 pub mod SubsetSums
 pub mod Numbering
 pub mod InPlace
+pub mod Order
 pub mod Terms
 pub mod Passing
 pub mod Degree

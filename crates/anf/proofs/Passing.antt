@@ -1,23 +1,26 @@
 -- The list of the numbers that pass a test: it rises, it has those members and no rising list but it has them, and its value is a sum.
 -- So a table is the sum of its terms: at each bit, the list of the sets whose coefficient word has that bit.
-use mathlib.Core.Path.{◌≡◌, refl, ap, ap₂, ◌∙◌}
-use mathlib.Core.Bool.{Bool, true, false}
+use mathlib.Core.Path.{◌≡◌, refl, sym, ap, ap₂, ◌∙◌}
+use mathlib.Core.Bool.{Bool, true, false, ◌&&◌, ◌||◌, and-or_distrib_right}
 use mathlib.Core.List.{List, [], ◌∷◌, ◌++◌, append-nil}
-use Prim.Native.Nat.{ℕ, zero, suc, ◌/◌, ◌%◌, ◌^◌, ◌≤◌, ◌<◌, ◌+◌}
+use Prim.Native.Nat.{ℕ, zero, suc, ◌/◌, ◌%◌, ◌^◌, ◌<◌, ◌+◌}
 use native.Mathlib.Nat.{add_comm}
 use native.Mathlib.Omega.{arith}
-use lib.Dec.{eqb}
+use borrow.Author.Tests.{lt-ltb, le-ltb, eqb-true}
+use lib.Dec.{eqb, ltb}
 use lib.Bits.{bit_xor, xor_zero_r}
 use lib.ListN.{length, length-append}
 use Rattle.finite.specs.Tests.{pick, bit, count, total}
 use Rattle.finite.specs.Sums.{xor_below}
 use Rattle.finite.specs.Sets.{subset}
+use Rattle.finite.proofs.Testing.{or_left, or_none, ltb_suc}
 use Rattle.finite.proofs.Xor.{bit_cases}
 use Rattle.finite.proofs.Sums.{xor_below_ext}
 use Rattle.anf.specs.NormalForm.{subset_sum}
-use Rattle.anf.specs.Terms.{value_at, TermList, passing}
+use Rattle.anf.specs.Terms.{value_at, before, TermList, passing}
 use Rattle.anf.proofs.SubsetSums.{subset_sum_twice, subset_sum_bit}
-use Rattle.anf.proofs.Terms.{Rising, rising_terms, value_at_append}
+use Rattle.anf.proofs.Order.{Rising, first_append, rising_terms, member, member_append}
+use Rattle.anf.proofs.Terms.{value_at_append}
 
 pub passing_none : (n : ℕ) → passing n (λ q. false) ≡ []
 unfolding passing
@@ -26,23 +29,40 @@ passing_none (suc n) = append-nil (passing n (λ q. false)) ∙ passing_none n
 
 -- ---- it rises
 
-pub rising_append : (lo k hi : ℕ) (a b : List ℕ) → lo ≤ k → k ≤ hi → Rising lo k a → Rising k hi b → Rising lo hi (a ++ b)
-rising_append lo k hi [] b p q ra rb = weaken b rb
-  where
-    weaken : (b : List ℕ) → Rising k hi b → Rising lo hi b
-    weaken [] r = tt
-    weaken (t ∷ b) r = (omega arith, r.1, r.2)
-rising_append lo k hi (t ∷ a) b p q ra rb = (ra.0, omega arith, rising_append (suc t) k hi a b ra.1 q ra.2 rb)
+-- by their numbers, as the numbers below n are taken
+before_lt : (a b : ℕ) → a < b → before a b ≡ true
+unfolding before
+before_lt a b h = lt-ltb a b h
 
-rising_one : (n : ℕ) (t : Bool) → Rising n (suc n) (pick t (n ∷ []) [])
-rising_one n true = (omega arith, omega arith, tt)
-rising_one n false = tt
+-- the number n behind a rising list of smaller ones
+rising_last : (n : ℕ) (l : List ℕ) (t : Bool) → Rising n l → Rising (suc n) (l ++ pick t (n ∷ []) [])
+rising_last n [] true r = (omega arith, tt, tt)
+rising_last n [] false r = tt
+rising_last n (u ∷ l) true r = (omega arith, first_append u l (n ∷ []) r.1 (before_lt u n r.0, tt), rising_last n l true r.2)
+rising_last n (u ∷ l) false r = (omega arith, first_append u l [] r.1 tt, rising_last n l false r.2)
 
-pub passing_rising : (n : ℕ) (p : ℕ → Bool) → Rising 0 n (passing n p)
+pub passing_rising : (n : ℕ) (p : ℕ → Bool) → Rising n (passing n p)
 unfolding passing
 passing_rising zero p = tt
-passing_rising (suc n) p =
-    rising_append 0 n (suc n) (passing n p) (pick (p n) (n ∷ []) []) (omega arith) (omega arith) (passing_rising n p) (rising_one n (p n))
+passing_rising (suc n) p = rising_last n (passing n p) (p n) (passing_rising n p)
+
+-- the number n alone, where it passes
+one_member : (n : ℕ) (p : ℕ → Bool) (u : ℕ) → member u (pick (p n) (n ∷ []) []) ≡ (eqb u n && p u)
+one_member n p u = go (eqb u n) refl (p n) refl
+  where
+    go : (c : Bool) → eqb u n ≡ c → (t : Bool) → p n ≡ t → member u (pick t (n ∷ []) []) ≡ (c && p u)
+    go true e true f = or_left (eqb u n) false e ∙ sym (ap p (eqb-true u n e) ∙ f)
+    go true e false f = sym (ap p (eqb-true u n e) ∙ f)
+    go false e true f = or_none e refl
+    go false e false f = refl
+
+-- it has those numbers
+pub passing_member : (n : ℕ) (p : ℕ → Bool) (u : ℕ) → member u (passing n p) ≡ (ltb u n && p u)
+unfolding passing
+passing_member zero p u = sym (ap (λ (x : Bool). x && p u) (le-ltb u 0 (omega arith)))
+passing_member (suc n) p u =
+    member_append u (passing n p) (pick (p n) (n ∷ []) []) ∙ ap₂ ◌||◌ (passing_member n p u) (one_member n p u)
+    ∙ sym (and-or_distrib_right (ltb u n) (eqb u n) (p u)) ∙ ap (λ (x : Bool). x && p u) (sym (ltb_suc u n))
 
 pub passing_terms : (n : ℕ) (p : ℕ → Bool) → TermList n (passing (2 ^ n) p)
 passing_terms n p = rising_terms n (passing (2 ^ n) p) (passing_rising (2 ^ n) p)

@@ -1,72 +1,24 @@
--- Lists of terms. At its first term a rising list has the value 1, and below it 0; so the values tell the list, and the least term that names a
--- variable of a group shows that the value depends on it.
+-- Lists of terms. At its first term a rising list has the value 1, as no term behind it is a subset of it; so the values tell the list, and the first term that
+-- names a variable of a group shows that the value depends on it.
 use mathlib.Core.Path.{◌≡◌, refl, sym, ap, ap₂, ◌∙◌}
-use mathlib.Core.Logic.{◌≢◌}
+use mathlib.Core.Logic.{◌≢◌, ◌⊎◌, inl, inr}
 use mathlib.Core.Bool.{Bool, true, false, false≢true, not, ◌||◌}
 use mathlib.Core.List.{List, [], ◌∷◌, ◌++◌}
-use Prim.Native.Nat.{ℕ, zero, suc, ◌+◌, ◌^◌, ◌≤◌, ◌<◌}
+use Prim.Native.Nat.{ℕ, zero, suc, ◌+◌, ◌^◌, ◌<◌}
 use native.Mathlib.Nat.{not-suc-le-zero, le_of_suc-le-suc}
-use native.Mathlib.Numerals.{add-one}
-use native.Mathlib.Decide.{dec_lt}
 use native.Mathlib.Omega.{arith}
 use lib.Dec.{eqb}
 use lib.ListN.{length, get_or}
 use lib.Bits.{bit_and, bit_or, bit_xor, xor_zero_r, xor_lt, and_comm, and_self, and_le_r, or_zero_l, or_add_and, xor_comm, xor_add_and}
-use borrow.Author.Tests.{eqb-true, eqb-false, ne_eqb, ltb-true, lt-ltb, le-ltb}
+use borrow.Author.Tests.{eqb-true, eqb-false, ne_eqb}
 use Rattle.finite.specs.Tests.{pick, any}
 use Rattle.finite.specs.Sets.{subset}
-use Rattle.finite.proofs.Testing.{or_left, or_right, or_none, any_some, any_none}
+use Rattle.finite.proofs.Testing.{clash, true_or_false, or_left, or_right, or_none, any_some, any_none}
 use Rattle.finite.proofs.Xor.{xor_assoc, xor_left_comm, xor_left_cancel, xor_ring, and_assoc, and_xor, and_or, xor_and}
 use Rattle.finite.proofs.Sums.{pick_lt}
-use Rattle.finite.proofs.Subsets.{subset_self, subset_gt, subset_iff}
+use Rattle.finite.proofs.Subsets.{eq_subset, subset_self, subset_gt, subset_trans, subset_iff}
 use Rattle.anf.specs.Terms.{value_at, before, TermList, named, names, clear, Depends}
-
--- strictly rising, from lo on and below hi
-abbrev pub Rising : ℕ → ℕ → List ℕ → Type 0
-Rising lo hi [] = Unit
-Rising lo hi (t ∷ l) = (lo ≤ t) × (t < hi) × Rising (suc t) hi l
-
-pub rising_below : (lo hi : ℕ) (l : List ℕ) → Rising lo hi l → (j : ℕ) → j < length l → get_or l j 0 < hi
-rising_below lo hi [] r j h = absurd (not-suc-le-zero h)
-rising_below lo hi (t ∷ l) r zero h = r.1
-rising_below lo hi (t ∷ l) r (suc j) h = rising_below (suc t) hi l r.2 j (le_of_suc-le-suc h)
-
-pub rising_from : (lo hi : ℕ) (l : List ℕ) → Rising lo hi l → 0 < length l → lo ≤ get_or l 0 0
-rising_from lo hi [] r h = absurd (not-suc-le-zero h)
-rising_from lo hi (t ∷ l) r h = r.0
-
-pub rising_next : (lo hi : ℕ) (l : List ℕ) → Rising lo hi l → (j : ℕ) → suc j < length l → get_or l j 0 < get_or l (suc j) 0
-rising_next lo hi [] r j h = absurd (omega arith)
-rising_next lo hi (t ∷ l) r zero h = rising_from (suc t) hi l r.2 (omega arith)
-rising_next lo hi (t ∷ l) r (suc j) h = rising_next (suc t) hi l r.2 j (omega arith)
-
-pub next_rising : (lo hi : ℕ) (l : List ℕ) → (0 < length l → lo ≤ get_or l 0 0) → ((j : ℕ) → j < length l → get_or l j 0 < hi)
-    → ((j : ℕ) → suc j < length l → get_or l j 0 < get_or l (suc j) 0) → Rising lo hi l
-next_rising lo hi [] a b c = tt
-next_rising lo hi (t ∷ l) a b c = (
-  a (omega arith),
-  b 0 (omega arith),
-  next_rising (suc t) hi l (λ h. c 0 (omega arith)) (λ j h. b (suc j) (omega arith)) (λ j h. c (suc j) (omega arith)),
-)
-
--- the order of terms, by their numbers
-pub before_lt : (a b : ℕ) → a < b → before a b ≡ true
-unfolding before
-before_lt a b h = lt-ltb a b h
-
-pub before_not : (a b : ℕ) → b ≤ a → before a b ≡ false
-unfolding before
-before_not a b h = le-ltb a b h
-
-pub rising_terms : (n : ℕ) (l : List ℕ) → Rising 0 (2 ^ n) l → TermList n l
-unfolding before
-rising_terms n l r =
-    record { below = rising_below 0 (2 ^ n) l r; rising = λ j h. rw add-one (lt-ltb (get_or l j 0) (get_or l (suc j) 0) (rising_next 0 (2 ^ n) l r j (omega arith))) }
-
-pub terms_rising : (n : ℕ) (l : List ℕ) → TermList n l → Rising 0 (2 ^ n) l
-unfolding before
-terms_rising n l t =
-    next_rising 0 (2 ^ n) l (λ h. omega arith) t.below (λ j h. ltb-true (get_or l j 0) (get_or l (suc j) 0) (rw add-one at (t.rising j (omega arith))))
+use Rattle.anf.proofs.Order.{before_subset, before_total, First, Rising, first_trans, terms_rising}
 
 -- ---- values
 
@@ -80,39 +32,41 @@ unfolding value_at
 value_at_append [] b x = refl
 value_at_append (t ∷ a) b x = rw (value_at_append a b x) (sym (xor_assoc (pick (subset t x) 1 0) (value_at a x) (value_at b x)))
 
--- a term larger than the point counts nothing
-pub value_at_above : (lo hi x : ℕ) (l : List ℕ) → Rising lo hi l → x < lo → value_at l x ≡ 0
+-- terms behind t count nothing at a subset of t
+pub value_at_behind : (t x : ℕ) (l : List ℕ) → First t l → subset x t ≡ true → value_at l x ≡ 0
 unfolding value_at
-value_at_above lo hi x [] r h = refl
-value_at_above lo hi x (t ∷ l) r h =
-    let g : x < t = omega arith in
-    rw (subset_gt t x g) (value_at_above (suc t) hi x l r.2 (omega arith))
-
--- at its first term a list has the value_at 1
-pub value_at_first : (hi t : ℕ) (l : List ℕ) → Rising (suc t) hi l → value_at (t ∷ l) t ≡ 1
-unfolding value_at
-value_at_first hi t l r = rw (subset_self t, value_at_above (suc t) hi t l r (omega arith))
-
-pub unique_rising : (lo hi : ℕ) (a b : List ℕ) → Rising lo hi a → Rising lo hi b → ((x : ℕ) → x < hi → value_at a x ≡ value_at b x) → a ≡ b
-unfolding value_at
-unique_rising lo hi [] [] ra rb h = refl
-unique_rising lo hi [] (t ∷ b) ra rb h = absurd (omega (arith, h t rb.1, value_at_first hi t b rb.2))
-unique_rising lo hi (s ∷ a) [] ra rb h = absurd (omega (arith, h s ra.1, value_at_first hi s a ra.2))
-unique_rising lo hi (s ∷ a) (t ∷ b) ra rb h = go (unique_rising (suc s) hi a b) (dec_lt s t) (dec_lt t s)
+value_at_behind t x [] f h = refl
+value_at_behind t x (u ∷ l) f h = rw (none (subset u x) refl, value_at_behind t x l f.1 h) refl
   where
-    go : (Rising (suc s) hi a → Rising (suc s) hi b → ((x : ℕ) → x < hi → value_at a x ≡ value_at b x) → a ≡ b) → Dec (s < t) → Dec (t < s) → s ∷ a ≡ t ∷ b
-    go ih (yes p) q =
-        absurd (omega (arith, h s ra.1, value_at_first hi s a ra.2, value_at_above t hi s (t ∷ b) (omega arith, rb.1, rb.2) p))
-    go ih (no p) (yes q) =
-        absurd (omega (arith, h t rb.1, value_at_first hi t b rb.2, value_at_above s hi t (s ∷ a) (omega arith, ra.1, ra.2) q))
-    go ih (no p) (no q) =
-        let e : t ≡ s = omega arith in
-        rw e (ap {B = List ℕ} (λ r. s ∷ r) (ih ra.2 (rw (← e) rb.2)
-        (λ x k. xor_left_cancel (pick (subset s x) 1 0) (value_at a x) (value_at b x) (rw e at (h x k)))))
+    none : (c : Bool) → subset u x ≡ c → c ≡ false
+    none true e = absurd (clash (subset_trans u x t e h) (before_subset t u f.0))
+    none false e = refl
+
+-- at its first term a list has the value 1
+pub value_at_first : (t : ℕ) (l : List ℕ) → First t l → value_at (t ∷ l) t ≡ 1
+unfolding value_at
+value_at_first t l f = rw (subset_self t, value_at_behind t t l f (subset_self t)) refl
+
+pub unique_rising : (n : ℕ) (a b : List ℕ) → Rising n a → Rising n b → ((x : ℕ) → x < n → value_at a x ≡ value_at b x) → a ≡ b
+unfolding value_at
+unique_rising n [] [] ra rb h = refl
+unique_rising n [] (t ∷ b) ra rb h = absurd (omega (arith, h t rb.0, value_at_first t b rb.1))
+unique_rising n (s ∷ a) [] ra rb h = absurd (omega (arith, h s ra.0, value_at_first s a ra.1))
+unique_rising n (s ∷ a) (t ∷ b) ra rb h = go (unique_rising n a b ra.2 rb.2) (true_or_false (before s t)) (true_or_false (before t s))
+  where
+    go : (((x : ℕ) → x < n → value_at a x ≡ value_at b x) → a ≡ b) → (before s t ≡ true) ⊎ (before s t ≡ false) → (before t s ≡ true) ⊎ (before t s ≡ false)
+        → s ∷ a ≡ t ∷ b
+    go ih (inl p) q =
+        absurd (omega (arith, h s ra.0, value_at_first s a ra.1, value_at_behind s s (t ∷ b) (p, first_trans s t b p rb.1) (subset_self s)))
+    go ih (inr p) (inl q) =
+        absurd (omega (arith, h t rb.0, value_at_first t b rb.1, value_at_behind t t (s ∷ a) (q, first_trans t s a q ra.1) (subset_self t)))
+    go ih (inr p) (inr q) =
+        let e : t ≡ s = sym (before_total s t p q) in
+        rw e (ap {B = List ℕ} (λ r. s ∷ r) (ih (λ x k. xor_left_cancel (pick (subset s x) 1 0) (value_at a x) (value_at b x) (rw e at (h x k)))))
 
 -- rising lists with equal values at all points are equal
 pub unique_terms : (n : ℕ) (a b : List ℕ) → TermList n a → TermList n b → ((x : ℕ) → x < 2 ^ n → value_at a x ≡ value_at b x) → a ≡ b
-unique_terms n a b ta tb h = unique_rising 0 (2 ^ n) a b (terms_rising n a ta) (terms_rising n b tb) h
+unique_terms n a b ta tb h = unique_rising (2 ^ n) a b (terms_rising n a ta) (terms_rising n b tb) h
 
 -- ---- dependence on the variables of a group
 
@@ -147,26 +101,31 @@ independent group l h x y e = sym (value_at_clear group l h x) ∙ ap (value_at 
 pub clear_xor : (x d group : ℕ) → bit_and d group ≡ d → clear (bit_xor x d) group ≡ clear x group
 clear_xor x d group h = rw (xor_and, h) (simp xor_ring)
 
-pub names_flip : (group lo hi : ℕ) (l : List ℕ) → Rising lo hi l → names group l ≡ true
-    → (x : ℕ) × (x < hi) × (value_at l x ≡ bit_xor 1 (value_at l (clear x group)))
+clear_subset : (x group : ℕ) → subset (clear x group) x ≡ true
+clear_subset x group =
+    eq_subset (clear x group) x
+    (xor_and x (bit_and x group) x ∙ ap₂ bit_xor (and_self x) (and_comm (bit_and x group) x ∙ sym (and_assoc x x group) ∙ ap (λ (y : ℕ). bit_and y group) (and_self x)))
+
+pub names_flip : (group n : ℕ) (l : List ℕ) → Rising n l → names group l ≡ true
+    → (x : ℕ) × (x < n) × (value_at l x ≡ bit_xor 1 (value_at l (clear x group)))
 unfolding value_at names
-names_flip group lo hi [] r h = absurd (false≢true h)
-names_flip group lo hi (t ∷ l) r h = go (names_flip group (suc t) hi l r.2) (eqb (bit_and t group) 0) refl h
+names_flip group n [] r h = absurd (false≢true h)
+names_flip group n (t ∷ l) r h = go (names_flip group n l r.2) (eqb (bit_and t group) 0) refl h
   where
-    go : (names group l ≡ true → (x : ℕ) × (x < hi) × (value_at l x ≡ bit_xor 1 (value_at l (clear x group))))
+    go : (names group l ≡ true → (x : ℕ) × (x < n) × (value_at l x ≡ bit_xor 1 (value_at l (clear x group))))
         → (b : Bool) → eqb (bit_and t group) 0 ≡ b → (not b || names group l) ≡ true
-        → (x : ℕ) × (x < hi) × (value_at (t ∷ l) x ≡ bit_xor 1 (value_at (t ∷ l) (clear x group)))
+        → (x : ℕ) × (x < n) × (value_at (t ∷ l) x ≡ bit_xor 1 (value_at (t ∷ l) (clear x group)))
     go ih true e k =
         let w = ih k in
         (w.0, w.1, rw (subset_clear t w.0 group (eqb-true (bit_and t group) 0 e), w.2) (xor_left_comm (pick (subset t w.0) 1 0) 1 (value_at l (clear w.0 group))))
     go ih false e k =
         let ne : bit_and t group ≢ 0 = eqb-false (bit_and t group) 0 e in
         let lt : clear t group < t = omega (arith, clear_add t group) in
-        (t, r.1, value_at_first hi t l r.2 ∙ rw (subset_gt t (clear t group) lt, value_at_above (suc t) hi (clear t group) l r.2 (omega arith)))
+        (t, r.0, value_at_first t l r.1 ∙ rw (subset_gt t (clear t group) lt, value_at_behind t (clear t group) l r.1 (clear_subset t group)))
 
-pub names_differ : (group lo hi : ℕ) (l : List ℕ) → Rising lo hi l → names group l ≡ true → (x : ℕ) × (x < hi) × (value_at l x ≢ value_at l (clear x group))
-names_differ group lo hi l r h =
-    let w = names_flip group lo hi l r h in
+pub names_differ : (group n : ℕ) (l : List ℕ) → Rising n l → names group l ≡ true → (x : ℕ) × (x < n) × (value_at l x ≢ value_at l (clear x group))
+names_differ group n l r h =
+    let w = names_flip group n l r h in
     let v = value_at l (clear w.0 group) in
     (w.0, w.1, λ e. let z : ◌≡◌ {A = ℕ} 1 0 = xor_left_cancel v 1 0 (xor_comm v 1 ∙ sym w.2 ∙ e ∙ sym (xor_zero_r v)) in omega arith)
 
@@ -176,7 +135,7 @@ clear_clear x group = clear_xor x (bit_and x group) group (and_assoc x group gro
 -- a list that names a variable of the group depends on the group
 pub names_depends : (n group : ℕ) (l : List ℕ) → TermList n l → names group l ≡ true → Depends n group (value_at l)
 names_depends n group l t h =
-    let w = names_differ group 0 (2 ^ n) l (terms_rising n l t) h in
+    let w = names_differ group (2 ^ n) l (terms_rising n l t) h in
     record {
       x = w.0;
       y = clear w.0 group;

@@ -1,26 +1,26 @@
 -- Products that are put into their places one after another, as the expansion of the terms brings them, make the list of the definition: each comes once, and
 -- a rising list with a term more in its place is the rising list of the larger set.
-use mathlib.Core.Path.{◌≡◌, refl, sym, ap, ap₂, ◌∙◌}
+use mathlib.Core.Path.{◌≡◌, refl, sym, ap, ◌∙◌}
 use mathlib.Core.Logic.{◌⊎◌, inl, inr, ⊎_elim}
-use mathlib.Core.Bool.{Bool, true, false, ◌&&◌, ◌||◌}
-use mathlib.Core.List.{List, [], ◌∷◌, ◌++◌, append-nil}
+use mathlib.Core.Bool.{Bool, true, false, ◌&&◌, ◌||◌, or_comm, or_assoc, and-or_distrib_left}
+use mathlib.Core.List.{List, [], ◌∷◌}
 use Prim.Native.Nat.{ℕ, zero, suc, ◌+◌, ◌*◌, ◌^◌, ◌≤◌, ◌<◌}
-use native.Mathlib.Nat.{not-suc-le-zero, zero-add}
+use native.Mathlib.Nat.{zero-add}
 use native.Mathlib.Numerals.{one-add}
 use native.Mathlib.Omega.{arith}
 use lib.Pow.{pow_pos}
-use lib.Dec.{eqb}
+use lib.Dec.{eqb, ltb}
 use lib.Bits.{bit_or}
 use lib.ListN.{length, get_or}
-use borrow.Author.Tests.{eqb-true, eq-eqb, ne_eqb}
+use borrow.Author.Tests.{eqb-true, eq-eqb, lt-ltb}
 use Rattle.finite.specs.Tests.{pick, any}
 use Rattle.finite.specs.Sets.{has}
-use Rattle.finite.proofs.Testing.{true_or_false, not_true_false, clash, below, pick_true, pick_false, and_intro, and_left}
-use Rattle.finite.proofs.Testing.{or_none, or_false_right, any_at, any_some}
+use Rattle.finite.proofs.Testing.{true_or_false, not_true_false, clash, pick_true, pick_false, and_intro, and_left, and_false_right}
+use Rattle.finite.proofs.Testing.{or_none, or_left, or_right, or_false_right, any_at, any_some}
 use Rattle.finite.proofs.Elements.{has_none}
 use Rattle.anf.specs.Terms.{before, passing}
-use Rattle.anf.proofs.Terms.{Rising, before_lt, before_not}
-use Rattle.anf.proofs.Passing.{passing_rising, passing_congr, passing_none}
+use Rattle.anf.proofs.Order.{before_total, First, Rising, first_trans, member, unique_members}
+use Rattle.anf.proofs.Passing.{passing_rising, passing_member, passing_congr, passing_none}
 use Rattle.design.specs.Limits.{greatest_terms, broken}
 use Rattle.design.proofs.Limits.{bounds}
 use Rattle.direct.specs.Direct.{is_product, chosen, stands, direct_list}
@@ -39,44 +39,57 @@ placed_in_here t x l e = rw e refl
 placed_in_behind : (t x : ℕ) (l : List ℕ) → before t x ≡ false → placed_in t (x ∷ l) ≡ x ∷ placed_in t l
 placed_in_behind t x l e = rw (e, one-add) refl
 
--- behind all
-inserted_last : (lo n : ℕ) (l : List ℕ) → Rising lo n l → placed_in n l ≡ l ++ (n ∷ [])
-inserted_last lo n [] r = refl
-inserted_last lo n (x ∷ l) r = placed_in_behind n x l (before_not n x (omega (arith, r.1))) ∙ ap (λ (y : List ℕ). x ∷ y) (inserted_last (suc x) n l r.2)
+first_placed : (x t : ℕ) (l : List ℕ) → before x t ≡ true → First x l → First x (placed_in t l)
+first_placed x t [] h f = (h, tt)
+first_placed x t (u ∷ l) h f = at (first_placed x t l h f.1) (true_or_false (before t u))
+  where
+    at : First x (placed_in t l) → (before t u ≡ true) ⊎ (before t u ≡ false) → First x (placed_in t (u ∷ l))
+    at ih (inl e) = rw (placed_in_here t u l e) (h, f)
+    at ih (inr e) = rw (placed_in_behind t u l e) (f.0, ih)
 
--- before the last
-inserted_first : (n t : ℕ) (l : List ℕ) → t < n → placed_in t (l ++ (n ∷ [])) ≡ placed_in t l ++ (n ∷ [])
-inserted_first n t [] h = placed_in_here t n [] (before_lt t n h)
-inserted_first n t (x ∷ l) h =
-    ⊎_elim
-    (λ e. placed_in_here t x (l ++ (n ∷ [])) e ∙ ap (λ (y : List ℕ). y ++ (n ∷ [])) (sym (placed_in_here t x l e)))
-    (λ e.
-    placed_in_behind t x (l ++ (n ∷ [])) e ∙ ap (λ (y : List ℕ). x ∷ y) (inserted_first n t l h)
-    ∙ ap (λ (y : List ℕ). y ++ (n ∷ [])) (sym (placed_in_behind t x l e)))
-    (true_or_false (before t x))
+-- a rising list with t in its place rises, where t is none of its terms
+rising_placed : (n t : ℕ) (l : List ℕ) → t < n → Rising n l → member t l ≡ false → Rising n (placed_in t l)
+rising_placed n t [] h r m = (h, tt, tt)
+rising_placed n t (u ∷ l) h r m = at (rising_placed n t l h r.2) (true_or_false (before t u))
+  where
+    behind : before t u ≡ false → (before u t ≡ true) ⊎ (before u t ≡ false) → before u t ≡ true
+    behind e (inl q) = q
+    behind e (inr q) = absurd (clash (or_left (eqb t u) (member t l) (eq-eqb t u (before_total t u e q))) m)
+
+    at : (member t l ≡ false → Rising n (placed_in t l)) → (before t u ≡ true) ⊎ (before t u ≡ false) → Rising n (placed_in t (u ∷ l))
+    at ih (inl e) = rw (placed_in_here t u l e) (h, (e, first_trans t u l e r.1), r)
+    at ih (inr e) =
+        let none : member t l ≡ false = not_true_false (member t l) (λ q. clash (or_right (eqb t u) (member t l) q) m) in
+        rw (placed_in_behind t u l e) (r.0, first_placed u t l (behind e (true_or_false (before u t))) r.1, ih none)
+
+-- its terms are t and those of the list
+member_placed : (u t : ℕ) (l : List ℕ) → member u (placed_in t l) ≡ (member u l || eqb u t)
+member_placed u t [] = or_false_right (eqb u t) false refl
+member_placed u t (x ∷ l) = at (member_placed u t l) (true_or_false (before t x))
+  where
+    at : member u (placed_in t l) ≡ (member u l || eqb u t) → (before t x ≡ true) ⊎ (before t x ≡ false)
+        → member u (placed_in t (x ∷ l)) ≡ (member u (x ∷ l) || eqb u t)
+    at ih (inl e) = ap (member u) (placed_in_here t x l e) ∙ or_comm (eqb u t) (member u (x ∷ l))
+    at ih (inr e) = ap (member u) (placed_in_behind t x l e) ∙ ap (λ (b : Bool). eqb u x || b) ih ∙ sym (or_assoc (eqb u x) (member u l) (eqb u t))
 
 -- the rising list of a set with t too
 pub inserted_passing : (n t : ℕ) (P : ℕ → Bool) → t < n → P t ≡ false → placed_in t (passing n P) ≡ passing n (λ q. P q || eqb q t)
-unfolding passing
-inserted_passing zero t P l f = absurd (not-suc-le-zero l)
-inserted_passing (suc n) t P l f =
-    below l
-    (λ e.
-    let z : P n ≡ false = ap P (sym e) ∙ f in
-    ap₂ (λ (a : ℕ) (b : Bool). placed_in a (passing n P ++ pick b (n ∷ []) [])) e z
-    ∙ ap (placed_in n) (append-nil (passing n P))
-    ∙ inserted_last 0 n (passing n P) (passing_rising n P)
-    ∙ ap₂ ◌++◌
-    (passing_congr n P (λ q. P q || eqb q t) (λ q k. sym (or_false_right (P q) (eqb q t) (ne_eqb q t (λ y. omega arith)))))
-    (sym (ap (λ (b : Bool). pick b (n ∷ []) []) (ap₂ ◌||◌ z (eq-eqb n t (sym e))))))
-    (λ k.
-    at (P n) k
-    ∙ ap₂ ◌++◌ (inserted_passing n t P k f)
-    (sym (ap (λ (b : Bool). pick b (n ∷ []) []) (or_false_right (P n) (eqb n t) (ne_eqb n t (λ y. omega arith))))))
+inserted_passing n t P l f =
+    unique_members n (placed_in t (passing n P)) (passing n Q) (rising_placed n t (passing n P) l (passing_rising n P) none) (passing_rising n Q)
+    (λ u. member_placed u t (passing n P) ∙ ap (λ (b : Bool). b || eqb u t) (passing_member n P u) ∙ with_t u ∙ sym (passing_member n Q u))
   where
-    at : (b : Bool) → t < n → placed_in t (passing n P ++ pick b (n ∷ []) []) ≡ placed_in t (passing n P) ++ pick b (n ∷ []) []
-    at true k = inserted_first n t (passing n P) k
-    at false k = ap (placed_in t) (append-nil (passing n P)) ∙ sym (append-nil (placed_in t (passing n P)))
+    Q : ℕ → Bool
+    Q q = P q || eqb q t
+
+    none : member t (passing n P) ≡ false
+    none = passing_member n P t ∙ and_false_right (ltb t n) (P t) f
+
+    within : (u : ℕ) → (eqb u t ≡ true) ⊎ (eqb u t ≡ false) → eqb u t ≡ (ltb u n && eqb u t)
+    within u (inl e) = e ∙ sym (and_intro (lt-ltb u n (omega (arith, eqb-true u t e))) e)
+    within u (inr e) = e ∙ sym (and_false_right (ltb u n) (eqb u t) e)
+
+    with_t : (u : ℕ) → ((ltb u n && P u) || eqb u t) ≡ (ltb u n && (P u || eqb u t))
+    with_t u = ap (λ (b : Bool). (ltb u n && P u) || b) (within u (true_or_false (eqb u t))) ∙ sym (and-or_distrib_left (ltb u n) (P u) (eqb u t))
 
 -- ---- the products of a term
 

@@ -1,6 +1,6 @@
 -- Subsets of sets of variables, and the top variable of a set: a number below 2 ^ suc n is below 2 ^ n, or 2 ^ n more than such a one.
 -- Induction on the number of variables goes by that.
-use mathlib.Core.Path.{◌≡◌, refl, sym, ap₂, ◌∙◌, subst}
+use mathlib.Core.Path.{◌≡◌, refl, sym, ap, ap₂, ◌∙◌, subst}
 use mathlib.Core.Logic.{◌≢◌}
 use mathlib.Core.Bool.{Bool, true, false}
 use Prim.Native.Nat.{ℕ, suc, ◌+◌, ◌-◌, ◌*◌, ◌^◌, ◌<◌}
@@ -9,6 +9,7 @@ use native.Mathlib.Omega.{arith}
 use lib.Bits.{bit_and, bit_xor, and_block, xor_block, and_self, and_le_r}
 use borrow.Author.Tests.{eqb-true, eqb-false, eq-eqb, ne_eqb}
 use Rattle.finite.specs.Sets.{subset}
+use Rattle.finite.proofs.Xor.{and_assoc}
 
 pub subset_eq : (v u : ℕ) → subset v u ≡ true → bit_and v u ≡ v
 unfolding subset
@@ -35,6 +36,11 @@ subset_empty u = eq_subset 0 u refl
 -- a larger number is no subset
 pub subset_gt : (v u : ℕ) → u < v → subset v u ≡ false
 subset_gt v u h = ne_subset v u (λ e. omega (arith, and_le_r v u))
+
+pub subset_trans : (v u w : ℕ) → subset v u ≡ true → subset u w ≡ true → subset v w ≡ true
+subset_trans v u w p q =
+    let e = subset_eq v u p in
+    eq_subset v w (ap (λ (x : ℕ). bit_and x w) (sym e) ∙ and_assoc v u w ∙ ap (bit_and v) (subset_eq u w q) ∙ e)
 
 -- two tests agree when the equations do
 pub subset_iff : (v u v' u' : ℕ) → (bit_and v u ≡ v → bit_and v' u' ≡ v') → (bit_and v' u' ≡ v' → bit_and v u ≡ v) → subset v u ≡ subset v' u'

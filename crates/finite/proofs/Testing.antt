@@ -1,15 +1,15 @@
 -- Laws of the tests over numbers below n, of the lowest that passes, and of tabulated lists.
 -- Assumes nothing.
 use mathlib.Core.Path.{◌≡◌, refl, sym, ap, ap₂, ◌∙◌}
-use mathlib.Core.Logic.{◌⊎◌, inl, inr, ⊎_elim}
+use mathlib.Core.Logic.{◌≢◌, ◌⊎◌, inl, inr, ⊎_elim}
 use mathlib.Core.Bool.{Bool, true, false, ◌&&◌, ◌||◌, true≢false, false≢true, not}
 use mathlib.Core.List.{List, [], ◌∷◌, ◌++◌, map, append_assoc, append-nil}
 use Prim.Native.Nat.{ℕ, zero, suc, ◌+◌, ◌≤◌, ◌<◌}
 use native.Mathlib.Nat.{add-zero, le_of_suc-le-suc, not-suc-le-zero, le_refl, le_step, eq-or-lt_of_le}
 use native.Mathlib.Numerals.{add-one}
 use native.Mathlib.Omega.{arith}
-use lib.Dec.{eqb}
-use borrow.Author.Tests.{eqb-true}
+use lib.Dec.{eqb, ltb}
+use borrow.Author.Tests.{eqb-true, eqb-false, lt-ltb, le-ltb, ltb-true, ltb-false}
 use lib.ListN.{length, get_or, drop, set, length-map, get_or-map}
 use lib.Seq.{set_at, drop-cons, ext_get_or}
 use Rattle.finite.specs.Tests.{pick, implies, all, any, first, tried, tabulate}
@@ -162,6 +162,17 @@ all_and n p q =
     bool_ext _ _
     (λ e. and_intro (all_intro n p (λ i l. and_left (p i) (q i) (all_at n _ e i l))) (all_intro n q (λ i l. and_right (p i) (q i) (all_at n _ e i l))))
     (λ e. all_intro n _ (λ i l. and_intro (all_at n p (and_left (all n p) (all n q) e) i l) (all_at n q (and_right (all n p) (all n q) e) i l)))
+
+pub ltb_suc : (u n : ℕ) → ltb u (suc n) ≡ (ltb u n || eqb u n)
+ltb_suc u n = at (true_or_false (ltb u n)) (true_or_false (eqb u n))
+  where
+    at : (ltb u n ≡ true) ⊎ (ltb u n ≡ false) → (eqb u n ≡ true) ⊎ (eqb u n ≡ false) → ltb u (suc n) ≡ (ltb u n || eqb u n)
+    at (inl l) e = lt-ltb u (suc n) (omega (arith, ltb-true u n l)) ∙ sym (or_left (ltb u n) (eqb u n) l)
+    at (inr l) (inl e) = lt-ltb u (suc n) (omega (arith, eqb-true u n e)) ∙ sym (or_right (ltb u n) (eqb u n) e)
+    at (inr l) (inr e) = le-ltb u (suc n) (above (ltb-false u n l) (eqb-false u n e)) ∙ sym (or_none l e)
+      where
+        above : n ≤ u → u ≢ n → suc n ≤ u
+        above k d = omega (arith, d)
 
 -- one more number, as code counts
 pub all_step : (n : ℕ) (p : ℕ → Bool) → all (n + 1) p ≡ (all n p && p n)
