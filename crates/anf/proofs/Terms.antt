@@ -4,16 +4,14 @@ use mathlib.Core.Path.{◌≡◌, refl, sym, ap, ap₂, ◌∙◌}
 use mathlib.Core.Logic.{◌≢◌, ◌⊎◌, inl, inr}
 use mathlib.Core.Bool.{Bool, true, false, false≢true, not, ◌||◌}
 use mathlib.Core.List.{List, [], ◌∷◌, ◌++◌}
-use Prim.Native.Nat.{ℕ, zero, suc, ◌+◌, ◌^◌, ◌<◌}
-use native.Mathlib.Nat.{not-suc-le-zero, le_of_suc-le-suc}
+use Prim.Native.Nat.{ℕ, ◌+◌, ◌^◌, ◌<◌}
 use native.Mathlib.Omega.{arith}
 use lib.Dec.{eqb}
-use lib.ListN.{length, get_or}
 use lib.Bits.{bit_and, bit_or, bit_xor, xor_zero_r, xor_lt, and_comm, and_self, and_le_r, or_zero_l, or_add_and, xor_comm, xor_add_and}
 use borrow.Author.Tests.{eqb-true, eqb-false, ne_eqb}
-use Rattle.finite.specs.Tests.{pick, any}
+use Rattle.finite.specs.Tests.{pick}
 use Rattle.finite.specs.Sets.{subset}
-use Rattle.finite.proofs.Testing.{clash, true_or_false, or_left, or_right, or_none, any_some, any_none}
+use Rattle.finite.proofs.Testing.{clash, true_or_false}
 use Rattle.finite.proofs.Xor.{xor_assoc, xor_left_comm, xor_left_cancel, xor_ring, and_assoc, and_xor, and_or, xor_and}
 use Rattle.finite.proofs.Sums.{pick_lt}
 use Rattle.finite.proofs.Subsets.{eq_subset, subset_self, subset_gt, subset_trans, subset_iff}
@@ -157,29 +155,6 @@ depends_names n group l d = go (names group l) refl
 pub names_exactly : (n group : ℕ) (l : List ℕ) → TermList n l
     → (names group l ≡ true → Depends n group (value_at l)) × (Depends n group (value_at l) → names group l ≡ true)
 names_exactly n group l t = (names_depends n group l t, depends_names n group l)
-
--- ---- what a list names, term by term
-
-names_at : (group : ℕ) (ts : List ℕ) (i : ℕ) → i < length ts → named group (get_or ts i 0) ≡ true → names group ts ≡ true
-unfolding names
-names_at group [] i l e = absurd (not-suc-le-zero l)
-names_at group (t ∷ ts) zero l e = or_left _ _ e
-names_at group (t ∷ ts) (suc i) l e = or_right (named group t) (names group ts) (names_at group ts i (le_of_suc-le-suc l) e)
-
-names_none : (group : ℕ) (ts : List ℕ) → ((i : ℕ) → i < length ts → named group (get_or ts i 0) ≡ false) → names group ts ≡ false
-unfolding names
-names_none group [] h = refl
-names_none group (t ∷ ts) h = or_none (h 0 (omega arith)) (names_none group ts (λ i l. h (suc i) (omega arith)))
-
-pub names_any : (group : ℕ) (ts : List ℕ) → names group ts ≡ any (length ts) (λ i. named group (get_or ts i 0))
-names_any group ts = go (any (length ts) one) refl
-  where
-    one : ℕ → Bool
-    one i = named group (get_or ts i 0)
-
-    go : (t : Bool) → any (length ts) one ≡ t → names group ts ≡ t
-    go true e = let r = any_some (length ts) one e in names_at group ts r.0 r.1 r.2
-    go false e = names_none group ts (any_none (length ts) one e)
 
 -- a union of terms names a variable of the group exactly when one of them does
 pub named_or : (group a b : ℕ) → named group (bit_or a b) ≡ (named group a || named group b)

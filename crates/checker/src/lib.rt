@@ -165,7 +165,8 @@ fn judge_stage(
     workspace: &mut [u8],
     trials: &mut usize,
 ) -> Result<(), Refusal>
-    requires { (t < design.now.head.k) × Cleared design.now.head.m design.now.head.s workspace.old × TablesPermute (meaning design.now.file.now) × (trials.old ≡ both_passes (meaning design.now.file.now) t) }
+    requires { (t < design.now.head.k) × Cleared design.now.head.m design.now.head.s workspace.old × TablesPermute (meaning design.now.file.now)
+        × (trials.old ≡ both_passes (meaning design.now.file.now) t) }
     ensures value { fault_of result ≡ stage_judged (meaning design.now.file.now) t }
     ensures trials { trials.new ≡ both_passes (meaning design.now.file.now) t + stage_tries (meaning design.now.file.now) t (stage_judged (meaning design.now.file.now) t).reason }
     ensures workspace_unchanged { workspace.new ≡ workspace.old }

@@ -6,8 +6,8 @@ use mathlib.Core.List.{List, [], ◌∷◌, ◌++◌, map, map-append, append_as
 use native.Mathlib.Omega.{arith}
 use native.Mathlib.Numerals.{add-one}
 use native.Mathlib.Nat.{zero-add}
-use lib.ListN.{length, get_or, set, take, drop, length-append}
-use lib.Seq.{sets-eq, paste-zero, take-suc, take-length, length-take-le, drop-drop, take_at, drop_at}
+use lib.ListN.{length, get_or, take, drop, length-append}
+use lib.Seq.{paste-zero, take-suc, take-length, length-take-le, drop-drop, take_at, drop_at}
 use Rattle.finite.specs.Tests.{total}
 use Rattle.records.specs.Inside.Overwriting.{overwrite}
 use Rattle.records.specs.Records.{join, a_record}
@@ -16,11 +16,6 @@ use Rattle.records.proofs.Joined.{join_last}
 overwrite_is : (l : List ℕ) (at : ℕ) (b : List ℕ) → overwrite l at b ≡ take at l ++ b ++ drop (at + length b) l
 unfolding overwrite
 overwrite_is l at b = refl
-
--- one byte
-pub overwrite_one : (l : List ℕ) (at b : ℕ) → at < length l → set l at b ≡ overwrite l at (b ∷ [])
-unfolding overwrite
-overwrite_one l at b h = sets-eq (b ∷ []) l at (omega arith)
 
 -- nothing written
 pub overwrite_nil : (l : List ℕ) (at : ℕ) → overwrite l at [] ≡ l
@@ -56,10 +51,6 @@ module _ (l : List ℕ) (at : ℕ) (a : List ℕ) (h : at ≤ length l) where
 pub record_length : (kind : ℕ) (b : List ℕ) → length (a_record kind b) ≡ 4 + length b
 unfolding a_record
 record_length kind b = omega arith
-
--- where the next record starts
-pub record_end : (body : List ℕ) (at kind next : ℕ) → next ≡ at + 4 + length body → next ≡ at + length (a_record kind body)
-record_end body at kind next e = omega (arith, record_length kind body)
 
 pub two_records_length : (j k : ℕ) (a b : List ℕ) → length (a_record j a ++ a_record k b) ≡ 4 + length a + (4 + length b)
 two_records_length j k a b = length-append (a_record j a) (a_record k b) ∙ ap₂ ◌+◌ (record_length j a) (record_length k b)
