@@ -1,7 +1,6 @@
 -- The order of terms, and the lists that rise in it. Of the laws of lists the first four alone open `before`: all else holds of any strict total order in which
 -- no subset of a term stands behind it. `Passing` opens it too, for the one list that a definition gives.
-use mathlib.Core.Path.{◌≡◌, refl, sym, ap, ap₂, ◌∙◌}
-use mathlib.Core.Logic.{◌⊎◌, inl, inr}
+use mathlib.Core.Path.{◌≡◌, refl, sym, ap, ◌∙◌}
 use mathlib.Core.Bool.{Bool, true, false, ◌||◌, or_assoc}
 use mathlib.Core.List.{List, [], ◌∷◌, ◌++◌}
 use Prim.Native.Nat.{ℕ, zero, suc, ◌^◌, ◌<◌}
@@ -10,9 +9,9 @@ use native.Mathlib.Numerals.{add-one}
 use native.Mathlib.Omega.{arith}
 use lib.Dec.{eqb}
 use lib.ListN.{length, get_or}
-use borrow.Author.Tests.{eqb-true, eq-eqb, ne_eqb, ltb-true, ltb-false, lt-ltb, le-ltb}
+use borrow.Author.Tests.{ne_eqb, ltb-true, ltb-false, lt-ltb, le-ltb}
 use Rattle.finite.specs.Sets.{subset}
-use Rattle.finite.proofs.Testing.{clash, true_or_false, or_none, or_left}
+use Rattle.finite.proofs.Testing.{clash, or_none}
 use Rattle.finite.proofs.Subsets.{subset_gt}
 use Rattle.anf.specs.Terms.{before, TermList}
 
@@ -97,25 +96,3 @@ member_append u (t ∷ a) b = ap (λ (x : Bool). eqb u t || x) (member_append u 
 pub first_apart : (t : ℕ) (l : List ℕ) → First t l → member t l ≡ false
 first_apart t [] f = refl
 first_apart t (u ∷ l) f = or_none (ne_eqb t u (λ e. clash f.0 (ap (before t) (sym e) ∙ before_self t))) (first_apart t l f.1)
-
--- lists that rise and have the same members are equal
-pub unique_members : (n : ℕ) (a b : List ℕ) → Rising n a → Rising n b → ((u : ℕ) → member u a ≡ member u b) → a ≡ b
-unique_members n [] [] ra rb h = refl
-unique_members n [] (t ∷ b) ra rb h = absurd (clash (or_left (eqb t t) (member t b) (eq-eqb t t refl)) (sym (h t)))
-unique_members n (s ∷ a) [] ra rb h = absurd (clash (or_left (eqb s s) (member s a) (eq-eqb s s refl)) (h s))
-unique_members n (s ∷ a) (t ∷ b) ra rb h = go (unique_members n a b ra.2 rb.2) (true_or_false (before s t)) (true_or_false (before t s))
-  where
-    same : s ≡ t → (u : ℕ) (c : Bool) → eqb u s ≡ c → member u a ≡ member u b
-    same e u true k =
-        ap (λ (x : ℕ). member x a) (eqb-true u s k) ∙ first_apart s a ra.1
-        ∙ sym (ap (λ (x : ℕ). member x b) (eqb-true u s k ∙ e) ∙ first_apart t b rb.1)
-    same e u false k =
-        let c : eqb u t ≡ false = ap (eqb u) (sym e) ∙ k in
-        ap (λ (x : Bool). x || member u a) (sym k) ∙ h u ∙ ap (λ (x : Bool). x || member u b) c
-
-    go : (((u : ℕ) → member u a ≡ member u b) → a ≡ b) → (before s t ≡ true) ⊎ (before s t ≡ false) → (before t s ≡ true) ⊎ (before t s ≡ false)
-        → s ∷ a ≡ t ∷ b
-    go ih (inl p) q = absurd (clash (or_left (eqb s s) (member s a) (eq-eqb s s refl)) (h s ∙ first_apart s (t ∷ b) (p, first_trans s t b p rb.1)))
-    go ih (inr p) (inl q) =
-        absurd (clash (or_left (eqb t t) (member t b) (eq-eqb t t refl)) (sym (h t) ∙ first_apart t (s ∷ a) (q, first_trans t s a q ra.1)))
-    go ih (inr p) (inr q) = let e = before_total s t p q in ap₂ ◌∷◌ e (ih (λ u. same e u (eqb u s) refl))

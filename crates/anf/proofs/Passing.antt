@@ -8,7 +8,6 @@ use native.Mathlib.Nat.{add_comm}
 use native.Mathlib.Omega.{arith}
 use borrow.Author.Tests.{lt-ltb, le-ltb, eqb-true}
 use lib.Dec.{eqb, ltb}
-use lib.Bits.{bit_xor, xor_zero_r}
 use lib.ListN.{length, length-append}
 use Rattle.finite.specs.Tests.{pick, bit, count, total}
 use Rattle.finite.specs.Sums.{xor_below}
@@ -20,7 +19,7 @@ use Rattle.anf.specs.NormalForm.{subset_sum}
 use Rattle.anf.specs.Terms.{value_at, before, TermList, passing}
 use Rattle.anf.proofs.SubsetSums.{subset_sum_twice, subset_sum_bit}
 use Rattle.anf.proofs.Order.{Rising, first_append, rising_terms, member, member_append}
-use Rattle.anf.proofs.Terms.{value_at_append}
+use Rattle.anf.proofs.Terms.{rising_value}
 
 pub passing_none : (n : ℕ) → passing n (λ q. false) ≡ []
 unfolding passing
@@ -85,20 +84,11 @@ passing_length (suc n) p =
 
 -- ---- its value
 
-value_one : (n x : ℕ) (t : Bool) → value_at (pick t (n ∷ []) []) x ≡ pick (subset n x) (bit t) 0
-unfolding value_at
-value_one n x true = xor_zero_r (pick (subset n x) 1 0)
-value_one n x false = go (subset n x)
-  where
-    go : (b : Bool) → 0 ≡ pick {A = ℕ} b 0 0
-    go true = refl
-    go false = refl
-
 pub value_at_passing : (n : ℕ) (p : ℕ → Bool) (x : ℕ) → value_at (passing n p) x ≡ xor_below n (λ i. pick (subset i x) (bit (p i)) 0)
-unfolding passing xor_below value_at
-value_at_passing zero p x = refl
-value_at_passing (suc n) p x =
-    value_at_append (passing n p) (pick (p n) (n ∷ []) []) x ∙ ap₂ bit_xor (value_at_passing n p x) (value_one n x (p n))
+value_at_passing n p x =
+    rising_value n (passing n p) x (passing_rising n p)
+    ∙ xor_below_ext n (λ u. pick (subset u x) (bit (member u (passing n p))) 0) (λ i. pick (subset i x) (bit (p i)) 0)
+    (λ u h. ap (λ (c : Bool). pick (subset u x) (bit c) 0) (passing_member n p u ∙ ap (λ (c : Bool). c && p u) (lt-ltb u n h)))
 
 -- ---- a table is the sum of its terms
 

@@ -3,20 +3,21 @@
 use mathlib.Core.Path.{◌≡◌, refl, sym, ap, ap₂, ◌∙◌}
 use mathlib.Core.Logic.{◌≢◌, ◌⊎◌, inl, inr}
 use mathlib.Core.Bool.{Bool, true, false, false≢true, not, ◌||◌}
-use mathlib.Core.List.{List, [], ◌∷◌, ◌++◌}
+use mathlib.Core.List.{List, [], ◌∷◌}
 use Prim.Native.Nat.{ℕ, ◌+◌, ◌^◌, ◌<◌}
 use native.Mathlib.Omega.{arith}
 use lib.Dec.{eqb}
 use lib.Bits.{bit_and, bit_or, bit_xor, xor_zero_r, xor_lt, and_comm, and_self, and_le_r, or_zero_l, or_add_and, xor_comm, xor_add_and}
-use borrow.Author.Tests.{eqb-true, eqb-false, ne_eqb}
-use Rattle.finite.specs.Tests.{pick}
+use borrow.Author.Tests.{eqb-true, eqb-false, eq-eqb, ne_eqb}
+use Rattle.finite.specs.Tests.{pick, bit}
+use Rattle.finite.specs.Sums.{xor_below}
 use Rattle.finite.specs.Sets.{subset}
 use Rattle.finite.proofs.Testing.{clash, true_or_false}
-use Rattle.finite.proofs.Xor.{xor_assoc, xor_left_comm, xor_left_cancel, xor_ring, and_assoc, and_xor, and_or, xor_and}
-use Rattle.finite.proofs.Sums.{pick_lt}
+use Rattle.finite.proofs.Xor.{xor_left_comm, xor_left_cancel, xor_ring, and_assoc, and_xor, and_or, xor_and}
+use Rattle.finite.proofs.Sums.{xor_below_ext, xor_below_xor, xor_below_none, xor_below_one, pick_lt, pick_zero}
 use Rattle.finite.proofs.Subsets.{eq_subset, subset_self, subset_gt, subset_trans, subset_iff}
 use Rattle.anf.specs.Terms.{value_at, before, TermList, named, names, clear, Depends}
-use Rattle.anf.proofs.Order.{before_subset, before_total, First, Rising, first_trans, terms_rising}
+use Rattle.anf.proofs.Order.{before_subset, before_total, First, Rising, first_trans, terms_rising, member, first_apart}
 
 -- ---- values
 
@@ -24,11 +25,6 @@ pub value_at_lt : (l : List ℕ) (x : ℕ) → value_at l x < 2
 unfolding value_at
 value_at_lt [] x = omega arith
 value_at_lt (t ∷ l) x = xor_lt 1 (pick (subset t x) 1 0) (value_at l x) (pick_lt (subset t x) 1 1 (omega arith)) (value_at_lt l x)
-
-pub value_at_append : (a b : List ℕ) (x : ℕ) → value_at (a ++ b) x ≡ bit_xor (value_at a x) (value_at b x)
-unfolding value_at
-value_at_append [] b x = refl
-value_at_append (t ∷ a) b x = rw (value_at_append a b x) (sym (xor_assoc (pick (subset t x) 1 0) (value_at a x) (value_at b x)))
 
 -- terms behind t count nothing at a subset of t
 pub value_at_behind : (t x : ℕ) (l : List ℕ) → First t l → subset x t ≡ true → value_at l x ≡ 0
@@ -61,6 +57,41 @@ unique_rising n (s ∷ a) (t ∷ b) ra rb h = go (unique_rising n a b ra.2 rb.2)
     go ih (inr p) (inr q) =
         let e : t ≡ s = sym (before_total s t p q) in
         rw e (ap {B = List ℕ} (λ r. s ∷ r) (ih (λ x k. xor_left_cancel (pick (subset s x) 1 0) (value_at a x) (value_at b x) (rw e at (h x k)))))
+
+-- one more member
+with_value : (t u x : ℕ) (l : List ℕ) → First t l
+    → pick (subset u x) (bit (member u (t ∷ l))) 0 ≡ bit_xor (pick (eqb u t) (pick (subset t x) 1 0) 0) (pick (subset u x) (bit (member u l)) 0)
+with_value t u x l f = go (eqb u t) refl
+  where
+    go : (c : Bool) → eqb u t ≡ c → pick (subset u x) (bit (c || member u l)) 0 ≡ bit_xor (pick c (pick (subset t x) 1 0) 0) (pick (subset u x) (bit (member u l)) 0)
+    go true k =
+        let z : member u l ≡ false = ap (λ (y : ℕ). member y l) (eqb-true u t k) ∙ first_apart t l f in
+        ap (λ (y : ℕ). pick (subset y x) 1 0) (eqb-true u t k)
+        ∙ sym (xor_zero_r (pick (subset t x) 1 0))
+        ∙ ap (bit_xor (pick (subset t x) 1 0)) (sym (ap (λ (b : Bool). pick (subset u x) (bit b) 0) z ∙ pick_zero (subset u x)))
+    go false k = refl
+
+-- the value of a rising list is the sum of its members
+pub rising_value : (n : ℕ) (l : List ℕ) (x : ℕ) → Rising n l → value_at l x ≡ xor_below n (λ u. pick (subset u x) (bit (member u l)) 0)
+unfolding value_at
+rising_value n [] x r = sym (xor_below_none n (λ u. pick (subset u x) 0 0) (λ i h. pick_zero (subset i x)))
+rising_value n (t ∷ l) x r =
+    ap (bit_xor (pick (subset t x) 1 0)) (rising_value n l x r.2) ∙ sym (
+    xor_below_ext n (λ u. pick (subset u x) (bit (member u (t ∷ l))) 0)
+    (λ u. bit_xor (pick (eqb u t) (pick (subset t x) 1 0) 0) (pick (subset u x) (bit (member u l)) 0)) (λ u h. with_value t u x l r.1)
+    ∙ xor_below_xor n (λ u. pick (eqb u t) (pick (subset t x) 1 0) 0) (λ u. pick (subset u x) (bit (member u l)) 0)
+    ∙ ap (λ (y : ℕ). bit_xor y (xor_below n (λ u. pick (subset u x) (bit (member u l)) 0)))
+    (xor_below_one n t (λ u. pick (eqb u t) (pick (subset t x) 1 0) 0) r.0 (λ i h d. ap (λ (b : Bool). pick b (pick (subset t x) 1 0) 0) (ne_eqb i t d))
+    ∙ ap (λ (b : Bool). pick b (pick (subset t x) 1 0) 0) (eq-eqb t t refl)))
+
+-- so rising lists with the same members are equal
+pub unique_members : (n : ℕ) (a b : List ℕ) → Rising n a → Rising n b → ((u : ℕ) → member u a ≡ member u b) → a ≡ b
+unique_members n a b ra rb h =
+    unique_rising n a b ra rb (λ x k.
+    rising_value n a x ra
+    ∙ xor_below_ext n (λ u. pick (subset u x) (bit (member u a)) 0) (λ u. pick (subset u x) (bit (member u b)) 0)
+    (λ u l. ap (λ (c : Bool). pick (subset u x) (bit c) 0) (h u))
+    ∙ sym (rising_value n b x rb))
 
 -- rising lists with equal values at all points are equal
 pub unique_terms : (n : ℕ) (a b : List ℕ) → TermList n a → TermList n b → ((x : ℕ) → x < 2 ^ n → value_at a x ≡ value_at b x) → a ≡ b

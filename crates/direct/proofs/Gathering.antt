@@ -19,7 +19,8 @@ use Rattle.finite.proofs.Testing.{true_or_false, not_true_false, clash, pick_tru
 use Rattle.finite.proofs.Testing.{or_none, or_left, or_right, or_false_right, any_at, any_some}
 use Rattle.finite.proofs.Elements.{has_none}
 use Rattle.anf.specs.Terms.{before, passing}
-use Rattle.anf.proofs.Order.{before_total, First, Rising, first_trans, member, unique_members}
+use Rattle.anf.proofs.Order.{before_total, First, Rising, first_trans, member}
+use Rattle.anf.proofs.Terms.{unique_members}
 use Rattle.anf.proofs.Passing.{passing_rising, passing_member, passing_congr, passing_none}
 use Rattle.design.specs.Limits.{greatest_terms, broken}
 use Rattle.design.proofs.Limits.{bounds}
