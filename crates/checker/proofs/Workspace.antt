@@ -15,7 +15,7 @@ use Rattle.finite.proofs.Testing.{and_intro, and_false_right, pick_true, pick_fa
 use Rattle.finite.proofs.Faults.{fault_none, fault_append, fault_either}
 use Rattle.design.specs.Design.{Stage, Design}
 use Rattle.checker.specs.Verdict.{answer, workspace_for, stage_faults, stages_faults, zeroed, workspace_left}
-use Rattle.checker.specs.Inside.Parts.{chain_judged}
+use Rattle.checker.specs.Inside.Parts.{stages_judged}
 use Rattle.checker.specs.declared.Verdict.{Verdict}
 
 -- ---- what a verdict leaves, by its reason
@@ -30,7 +30,7 @@ module _ (d : Design) (reason : ℕ) (ws : List ℕ) where
   cleared (inl z) = rw z refl
   cleared (inr h) = pick_false _ _ _ (and_false_right (leb 1 reason) (leb reason 9) (lt-leb reason 9 h))
 
--- past 8 and 9 the reason is 0, or 10 and above
+-- past 8, 9 and 10 the reason is 0, or above 10
 abbrev Late : Verdict → Type 0
 Late v = (v.reason ≡ 0) ⊎ (10 ≤ v.reason)
 
@@ -43,9 +43,9 @@ late_stages d i (g ∷ gs) =
     (λ e. fault_either Late _ _ _ _ (λ e. inr (omega arith))
     (λ e. fault_either Late _ _ _ _ (λ e. inr (omega arith)) (λ e. rw fault_none (late_stages d (suc i) gs)))))
 
-pub late_reasons : (d : Design) → Late (chain_judged d)
-unfolding chain_judged
-late_reasons d = fault_either Late _ _ _ _ (λ e. inr (omega arith)) (λ e. late_stages d 1 d.stages)
+pub late_reasons : (d : Design) → Late (stages_judged d)
+unfolding stages_judged
+late_reasons d = late_stages d 1 d.stages
 
 -- ---- zeroed bytes stay so, and are as many
 

@@ -26,6 +26,10 @@ verdict_of (Err r) = refused_with r
 abbrev pub judged_of : Judgement → Judged
 judged_of j = counted (verdict_of j.outcome) j.trials
 
+-- a refusal before any trial
+abbrev pub untried : Refusal → Judged
+untried r = counted (refused_with r) 0
+
 -- a head record that is refused needs nothing
 abbrev pub forecast_of : Result Needs Reason → Forecast
 forecast_of (Ok n) = record { reason = 0; workspace = n.workspace; trials = n.trials }

@@ -18,7 +18,7 @@ use Rattle.design.specs.declared.heads.Head as heads
 use Rattle.design.specs.Inside.Described.{Describes}
 use Rattle.design.specs.Inside.StageLists.{body_at, Inside, AllInside, lists_of, run_length, Stands, lists_in}
 use Rattle.design.proofs.Answered.{described}
-use Rattle.design.proofs.StageLists.{lists_of_length, lists_of_at, Stand, stand}
+use Rattle.design.proofs.StageLists.{lists_length, lists_of_length, lists_of_at, Stand, stand}
 
 -- ---- a run of n lists, the starts from number `first` on
 
@@ -163,3 +163,6 @@ module _ (f : List ℕ) (bytes : Bytes f) (h : heads.Head) (starts : List ℕ) (
 
     pub stage_lists : lists_in f (mid_of first (first + n + 1 - first) starts) ≡ (stage_of (meaning f) t).lists
     stage_lists = run_lists f starts _ first n within run_is ∙ ap (lists_of f starts first) en ∙ whole.all
+
+    pub stage_lists_many : length (lists_in f (mid_of first (first + n + 1 - first) starts)) ≡ h.m * h.s
+    stage_lists_many = ap (λ (x : List (List ℕ)). length x) stage_lists ∙ lists_length f (laid h starts) d t u

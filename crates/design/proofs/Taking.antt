@@ -6,9 +6,9 @@ use mathlib.Core.Path.{◌≡◌, sym, ap, ◌∙◌}
 use mathlib.Core.List.{List, ◌++◌, map, append_assoc}
 use native.Mathlib.Omega.{arith}
 use native.Mathlib.Nat.{add-sub_cancel_left}
-use lib.ListN.{length, get_or, take, drop}
+use lib.ListN.{length, get_or, take, drop, length-drop}
 use lib.Pow.{pow_mono}
-use lib.Seq.{take_at, drop_at}
+use lib.Seq.{take_at, drop_at, length-take-le}
 use mir.Syntax.{w64}
 use mir.Val.{Fits}
 use Rattle.records.specs.Bytes.{Bytes, u16_at, term_bytes}
@@ -30,6 +30,10 @@ use Rattle.design.proofs.Theorems.{read_encodes}
 -- n bytes from `from` on, as a slice that ends at from + n
 slice_is : (f b : List ℕ) (from n k : ℕ) → Part f from k b → n ≡ k → take (from + n - from) (drop from f) ≡ b
 slice_is f b from n k p e = ap (λ (x : ℕ). take x (drop from f)) (add-sub_cancel_left from n ∙ e) ∙ p.is
+
+-- it has as many bytes, where they are there
+pub slice_length : (f : List ℕ) (from n p : ℕ) → n ≡ p → from + n ≤ length f → length (take (from + n - from) (drop from f)) ≡ p
+slice_length f from n p e h = length-take-le _ (drop from f) (rw length-drop (omega arith)) ∙ add-sub_cancel_left from n ∙ e
 
 module _ (f : List ℕ) (l : Layout) (d : Describes f l) where
   pub list_fits : (x : ℕ) → x < l.head.m * l.head.s → Fits w64 (x + 1)
@@ -116,7 +120,7 @@ module _ (f : List ℕ) (l : Layout) (d : Describes f l) where
     entries_small = omega (arith, pow_mono (limited f l d).m_high)
 
     box_size : length (meaning f).box ≡ p
-    box_size = let r = described d in r.formed.box.size ∙ sym (ep ∙ ap (λ (m : ℕ). 2 ^ m) r.m)
+    box_size = (described d).formed.box.size ∙ sym ep
 
     module _ (b : ℕ) (eb : b ≡ 4 + p) where
       pub front_fits : (a : ℕ) → a ≡ 4 + 3 → Fits w64 (a + b)

@@ -12,10 +12,10 @@ use Rattle.threshold.specs.Stages.{component, output, Correct, NonComplete, Unif
 use Rattle.threshold.specs.Chain.{chained}
 use Rattle.threshold.proofs.Tables.{chained_append}
 use Rattle.checker.specs.Verdict.{answer, verdict}
-use Rattle.checker.specs.Accepted.{ChainIsBox, SoundAt, Accepted}
+use Rattle.checker.specs.Accepted.{ChainIsBox, SoundAt, Sound}
 use Rattle.checker.specs.Assurance.{Assured, Blind}
-use Rattle.checker.proofs.Exactly.{accepted_exactly, reason_accepted}
-use Rattle.checker.proofs.Assurance.{accepted_assured, accepted_blind}
+use Rattle.checker.proofs.Exactly.{accepted_exactly, reason_sound}
+use Rattle.checker.proofs.Assurance.{file_assured}
 use Rattle.joiner.specs.Joining.{joined_design, joined, Joinable}
 use Rattle.joiner.proofs.Formed.{through_at, either_stage, joined_reads}
 
@@ -34,8 +34,8 @@ module _ (d e : Design) (v : WellFormed d) (em : d.m ≡ e.m) where
   joined_chain p q x l =
       chained_append d.stages e.stages x ∙ ap (chained e.stages) (p x l) ∙ q (S₁ x) (rw em at (v.box.below x l)) ∙ sym (through x l)
 
-  joined_sound : d.s ≡ e.s → ((t : ℕ) → t < d.k → SoundAt d t) → ((t : ℕ) → t < e.k → SoundAt e t) → (t : ℕ) → t < d.k + e.k → SoundAt (joined_design d e) t
-  joined_sound es p q t l = record {
+  stages_sound : d.s ≡ e.s → ((t : ℕ) → t < d.k → SoundAt d t) → ((t : ℕ) → t < e.k → SoundAt e t) → (t : ℕ) → t < d.k + e.k → SoundAt (joined_design d e) t
+  stages_sound es p q t l = record {
     correct =
         either_stage (λ x. Correct d.m d.s (component d.m x.lists) x.table) d e v.count (λ i h. (p i h).correct) (λ i h. rw (em, es) (q i h).correct) t l;
     non_complete =
@@ -44,25 +44,20 @@ module _ (d e : Design) (v : WellFormed d) (em : d.m ≡ e.m) where
         either_stage (λ x. Uniform d.m d.s (output x.lists) x.table) d e v.count (λ i h. (p i h).uniform) (λ i h. rw (em, es) (q i h).uniform) t l;
   }
 
-module _ (f g : List ℕ) (d e : Design) (n n' : ℕ) (j : Joinable f g d e) where
-  both_accepted : Accepted f n d → Accepted g n' e → Accepted (joined f g) n (joined_design d e)
-  both_accepted a b =
-      let v = read_formed f d j.first in
-      record {
-        reads = joined_reads f g d e j;
-        box = joined_permutes d e v j.width a.box b.box;
-        room = a.room;
-        chain = joined_chain d e v j.width a.chain b.chain;
-        stages = joined_sound d e v j.width j.shares a.stages b.stages;
-      }
+  -- of two designs, in files or not
+  pub joined_sound : d.s ≡ e.s → Sound d → Sound e → Sound (joined_design d e)
+  joined_sound es a b =
+      record { box = joined_permutes a.box b.box; chain = joined_chain a.chain b.chain; stages = stages_sound es a.stages b.stages }
 
-  module _ (za : (verdict f n).reason ≡ 0) (zb : (verdict g n').reason ≡ 0) where
-    accepted : Accepted (joined f g) n (joined_design d e)
-    accepted = both_accepted (reason_accepted f n d j.first za) (reason_accepted g n' e j.second zb)
-
-    pub joined_accepted : (verdict (joined f g) n ≡ answer 0 (d.k + e.k) 0) × Assured (joined f g) (joined_design d e) × Blind (joined_design d e)
-    joined_accepted = (
-      (accepted_exactly (joined f g) n (d.k + e.k)).1 (joined_design d e, refl, accepted),
-      accepted_assured (joined f g) n (joined_design d e) accepted,
-      accepted_blind (joined f g) n (joined_design d e) accepted,
+pub joined_accepted : (f g : List ℕ) (d e : Design) (n n' : ℕ) → Joinable f g d e → (verdict f n).reason ≡ 0 → (verdict g n').reason ≡ 0
+    → (verdict (joined f g) n ≡ answer 0 (d.k + e.k) 0) × Assured (joined f g) (joined_design d e) × Blind (joined_design d e)
+joined_accepted f g d e n n' j za zb =
+    let a = reason_sound f n d j.first za in
+    let b = reason_sound g n' e j.second zb in
+    let reads = joined_reads f g d e j in
+    let sound = joined_sound d e (read_formed f d j.first) j.width j.shares a.1 b.1 in
+    let w = file_assured (joined f g) (joined_design d e) reads sound in (
+      (accepted_exactly (joined f g) n (d.k + e.k)).1 (joined_design d e, refl, record { reads = reads; room = a.0; sound = sound }),
+      w.0,
+      w.1,
     )

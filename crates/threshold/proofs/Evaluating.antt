@@ -1,4 +1,4 @@
--- The functions of `engine` at each way out and for a turn, over plain values: ls are lists, t is a stage of a file f, j a component.
+-- The functions of `engine` at each way out and for a turn, over plain values: ls are lists, j is a component.
 -- Lists are read from the last down: each step adds the value of one list below those so far, and the last step gives the output of all.
 -- Assumes nothing.
 use mathlib.Core.Path.{◌≡◌, sym, ap, ◌∙◌}
@@ -17,13 +17,7 @@ use mir.Val.{Fits}
 use Rattle.anf.specs.Terms.{value_at}
 use Rattle.anf.proofs.Terms.{value_at_lt}
 use Rattle.design.specs.Limits.{greatest_width, greatest_share_bits, broken}
-use Rattle.design.specs.Design.{stage_of}
-use Rattle.design.specs.Reading.{meaning}
-use Rattle.design.specs.Inside.Described.{Describes}
-use Rattle.design.specs.Heads.{laid}
-use Rattle.design.specs.declared.heads.Head as heads
 use Rattle.design.proofs.Limits.{bounds}
-use Rattle.design.proofs.StageLists.{lists_length}
 use Rattle.threshold.specs.Sharing.{sum}
 use Rattle.threshold.specs.Stages.{output, component}
 use Rattle.threshold.proofs.Sharing.{sum_none, sum_step, sum_lt}
@@ -66,28 +60,26 @@ module _ (ls : List (List ℕ)) (x n : ℕ) (en : n ≡ length ls) where
 
 -- ---- `component_at`: the m lists from m × j on
 
-module _ (h : heads.Head) (l : broken h.m h.s h.k ≡ false) (j : ℕ) (u : j < h.s) where
-  part_before : h.m * j + h.m ≤ h.m * h.s
-  part_before = let e = mul-le-mul_left h.m u in let q = mul-suc h.m j in omega arith
+module _ (m s k : ℕ) (limits : broken m s k ≡ false) (j : ℕ) (u : j < s) where
+  part_before : m * j + m ≤ m * s
+  part_before = let e = mul-le-mul_left m u in let q = mul-suc m j in omega arith
 
-  pub before_fits : Fits w64 (h.m * j)
-  before_fits = record { fits = omega (arith, part_before, (bounds h.m h.s h.k l).bits) }
+  pub before_fits : Fits w64 (m * j)
+  before_fits = record { fits = omega (arith, part_before, (bounds m s k limits).bits) }
 
-  module _ (f starts : List ℕ) (d : Describes f (laid h starts)) (t : ℕ) (k : t < h.k) (ls : List (List ℕ)) (e : ls ≡ (stage_of (meaning f) t).lists) where
-    pub part_within : h.m * j + h.m ≤ length ls
-    part_within = omega (arith, part_before, ap (λ (x : List (List ℕ)). length x) e, lists_length f (laid h starts) d t k)
+  module _ (ls : List (List ℕ)) (many : length ls ≡ m * s) where
+    pub part_within : m * j + m ≤ length ls
+    part_within = omega (arith, part_before)
 
-    module _ (part : List (List ℕ)) (q : part ≡ take h.m (drop (h.m * j) ls)) (r x : ℕ) where
-      pub component_found : r ≡ output part x → r ≡ component h.m (stage_of (meaning f) t).lists j x
-      component_found o =
-          o ∙ ap (λ (y : List (List ℕ)). output y x) (q ∙ ap (λ (y : List (List ℕ)). take h.m (drop (h.m * j) y)) e)
-          ∙ sym (output_share x h.m j (stage_of (meaning f) t).lists)
+    pub component_lt : (part : List (List ℕ)) → part ≡ take m (drop (m * j) ls) → (r : ℕ) → r < 2 ^ length part → r < 2 ^ m
+    component_lt part q r o =
+        let n : length part ≡ m =
+        ap (λ (y : List (List ℕ)). length y) q ∙ length-take-le m (drop (m * j) ls) (rw (length-drop (m * j) ls) (omega (arith, part_within))) in
+        rw n at o
 
-      pub component_lt : r < 2 ^ length part → r < 2 ^ h.m
-      component_lt o =
-          let n : length part ≡ h.m =
-          ap (λ (y : List (List ℕ)). length y) q ∙ length-take-le h.m (drop (h.m * j) ls) (rw (length-drop (h.m * j) ls) (omega (arith, part_within))) in
-          rw n at o
+pub component_found : (m j : ℕ) (ls us part : List (List ℕ)) → part ≡ take m (drop (m * j) ls) → ls ≡ us → (r x : ℕ) → r ≡ output part x → r ≡ component m us j x
+component_found m j ls us part q e r x o =
+    o ∙ ap (λ (y : List (List ℕ)). output y x) (q ∙ ap (λ (y : List (List ℕ)). take m (drop (m * j) y)) e) ∙ sym (output_share x m j us)
 
 -- ---- `share_mask`: p is the number of values of a share
 

@@ -1,6 +1,6 @@
 -- The functions of `runs` at each way out and for a turn, over plain values: l is the shares, w the width, s their number.
 -- Assumes nothing.
-use mathlib.Core.Path.{◌≡◌, refl, sym, ap, ap₂, ◌∙◌, subst}
+use mathlib.Core.Path.{◌≡◌, refl, sym, ap, ap₂, ◌∙◌}
 use mathlib.Core.Bool.{Bool, true, false, not}
 use mathlib.Core.List.{List, ◌++◌}
 use Prim.Native.Nat.{ℕ, ◌+◌, ◌*◌, ◌%◌, ◌^◌, ◌≤◌, ◌<◌}
@@ -16,23 +16,17 @@ use Rattle.finite.specs.Tests.{tabulate}
 use Rattle.finite.proofs.Testing.{all_intro, all_fails, tabulate_more}
 use Rattle.reasons.specs.Numbers.{number}
 use Rattle.reasons.specs.declared.Reason.{Reason}
-use Rattle.reasons.proofs.Numbers.{number_some}
 use Rattle.design.specs.Limits.{greatest_width, greatest_shares, broken}
-use Rattle.design.specs.Heads.{laid_by}
-use Rattle.design.specs.Design.{stage_of}
-use Rattle.design.specs.Reading.{meaning}
-use Rattle.design.specs.Layout.{refused_layout, layout_of}
-use Rattle.design.specs.Inside.Described.{Describes}
-use Rattle.design.proofs.Answered.{refuses}
-use Rattle.design.proofs.Found.{limits}
+use Rattle.design.specs.Design.{Stage, Design, WellFormed, no_stage}
+use Rattle.design.specs.Reading.{refused, means, reading}
 use Rattle.design.proofs.Limits.{bounds}
-use Rattle.design.proofs.StageLists.{stages_length, lists_length}
 use Rattle.threshold.specs.Stages.{output, component}
+use Rattle.threshold.specs.Chain.{handed}
 use Rattle.threshold.specs.Inside.Outcomes.{finished}
-use Rattle.threshold.specs.Running.{packed, unpacked, share_fits, shares_fit, five_zeros, refused_run, running}
+use Rattle.threshold.specs.Running.{packed, unpacked, share_fits, shares_fit, five_zeros, refused_run, running_on, running}
 use Rattle.threshold.specs.declared.Ran.{Ran}
 use Rattle.threshold.proofs.Packing.{share_fits_lem, packed_none, packed_next, packed_lt, packed_small, unpacked_filled}
-use Rattle.threshold.proofs.Running.{Sent, sent_start, sent_fits, sent_next, sent_end, unfit_end, running_refused}
+use Rattle.threshold.proofs.Running.{Sent, sent_start, sent_fits, sent_next, running_as, running_refused, unfit_run, fit_run}
 
 -- ---- `share_fits`: v is share j
 
@@ -125,35 +119,31 @@ module _ (m s k : ℕ) (limits : broken m s k ≡ false) where
 
 -- ---- `run_chain`: b is whether the shares l fit; `at` is what the chain makes of them, up to stage t
 
-module _ (f starts : List ℕ) (m s k : ℕ) (d : Describes f (laid_by m s k starts)) where
-  fine : broken m s k ≡ false
-  fine = limits f _ d
+module _ (m s k : ℕ) (limits : broken m s k ≡ false) (stages : List Stage) (l : List ℕ) where
+  pub run_start : (b : Bool) → b ≡ shares_fit m s l → not b ≡ false → length l ≡ greatest_shares → Sent m s stages l l 0
+  run_start b eb h n = sent_start _ _ _ l (bounds m s k limits).s_high n (sym eb ∙ not-false b h)
 
-  module _ (l : List ℕ) (b : Bool) (eb : b ≡ shares_fit m s l) where
-    pub unfit : not b ≡ true → refused_run 15 ≡ running f l
-    unfit h = sym (unfit_end f l _ d (sym eb ∙ not-true b h))
+  pub run_fits : (at : List ℕ) (t : ℕ) → Sent m s stages l at t → shares_fit m s at ≡ true
+  run_fits at t p = sent_fits _ _ _ _ (bounds m s k limits).s_high _ _ p
 
-    pub run_start : not b ≡ false → length l ≡ greatest_shares → Sent m s (meaning f).stages l l 0
-    run_start h n = sent_start _ _ _ l (bounds m s k fine).s_high n (sym eb ∙ not-false b h)
+pub run_more : (m s k : ℕ) (box : List ℕ) (stages : List Stage) → WellFormed (record { m = m; s = s; k = k; box = box; stages = stages }) → (l at : List ℕ) (t : ℕ)
+    → Sent m s stages l at t → t < k → (next : List ℕ) → next ≡ unpacked m s (output (get_or stages t no_stage).lists (packed m s at)) → Sent m s stages l next (t + 1)
+run_more m s k box stages wf l at t p h next e =
+    sent_next _ _ _ _ (bounds m s k wf.limits).s_high _ t p next (omega (arith, wf.count)) (wf.stage t h).count e
 
-    module _ (at : List ℕ) (t : ℕ) (p : Sent m s (meaning f).stages l at t) where
-      pub run_end : not b ≡ false → t ≤ k → k ≤ t → finished at ≡ running f l
-      run_end h u v = sent_end f l at _ d t (omega arith) (sym eb ∙ not-false b h) p
+module _ (d : Design) (l : List ℕ) (b : Bool) (eb : b ≡ shares_fit d.m d.s l) where
+  pub unfit : not b ≡ true → refused_run 15 ≡ running_on (means d) l
+  unfit h = sym (unfit_run d l (sym eb ∙ not-true b h))
 
-  module _ (l at : List ℕ) (t : ℕ) (p : Sent m s (meaning f).stages l at t) where
-    pub run_fits : shares_fit m s at ≡ true
-    run_fits = sent_fits _ _ _ _ (bounds m s k fine).s_high _ _ p
+  pub run_end : not b ≡ false → (at : List ℕ) (t : ℕ) → Sent d.m d.s d.stages l at t → t ≤ d.k → d.k ≤ t → finished at ≡ running_on (means d) l
+  run_end h at t p u v =
+      let z : t ≡ d.k = omega arith in
+      ap finished (p.shares ∙ ap (λ (k : ℕ). unpacked d.m d.s (handed d.stages k (packed d.m d.s l))) z) ∙ sym (fit_run d l (sym eb ∙ not-false b h))
 
-    pub run_more : t < k → (next : List ℕ) → next ≡ unpacked m s (output (stage_of (meaning f) t).lists (packed m s at))
-        → Sent m s (meaning f).stages l next (t + 1)
-    run_more h next e =
-        let u = subst (λ (x : ℕ). t < x) (sym (stages_length f _ d)) h in
-        sent_next _ _ _ _ (bounds m s k fine).s_high _ t p next u (lists_length f _ d t h) e
+-- ---- `run`: the file f does not read, or reads as d
 
--- ---- `run`: the file f does not read, or reads as g, which is the same file
+pub unread : (f l : List ℕ) (r : Reason) (p : ℕ) → refused (number r) p ≡ reading f → refused_run (number r) ≡ running f l
+unread f l r p e = sym (running_refused f l _ _ (sym e))
 
-pub unread : (f l : List ℕ) (r : Reason) (p : ℕ) → refused_layout (number r) p ≡ layout_of f → refused_run (number r) ≡ running f l
-unread f l r p e = sym (running_refused f l _ _ (refuses f _ e (number_some r)))
-
-pub same_file : (f g l : List ℕ) (v : Ran) → g ≡ f → v ≡ running g l → v ≡ running f l
-same_file f g l v e q = q ∙ ap (λ (x : List ℕ). running x l) e
+pub read_run : (f l : List ℕ) (d : Design) → means d ≡ reading f → (v : Ran) → v ≡ running_on (means d) l → v ≡ running f l
+read_run f l d e v q = q ∙ sym (running_as f l (means d) (sym e))

@@ -2,7 +2,7 @@
 ghost use Rattle.std.specs.Prelude.{◌≡◌, ◌-◌, ◌*◌, ◌^◌, ◌≤◌, ◌<◌, length};
 ghost use Rattle.design.specs.Limits.{greatest_width};
 ghost use Rattle.design.specs.Design.{stage_of};
-ghost use Rattle.design.specs.Reading.{meaning};
+ghost use Rattle.design.specs.Inside.Held.{design_of};
 ghost use Rattle.design.specs.Inside.Lists.{lists_held};
 ghost use Rattle.threshold.specs.Sharing.{sum};
 ghost use Rattle.threshold.specs.Stages.{output, component};
@@ -24,7 +24,7 @@ pub fn output_of(lists: &Lists<'_>, x: u32) -> u32
 /// What component `j` of stage `t` gives at the sharing `x`.
 pub fn component_at(design: &DesignFile<'_>, t: usize, j: usize, x: u32) -> u32
     requires { (t < design.now.head.k) × (j < design.now.head.s) }
-    ensures { (result ≡ component design.now.head.m (stage_of (meaning design.now.file.now) t).lists j x) × (result < 2 ^ design.now.head.m) }
+    ensures { (result ≡ component design.now.head.m (stage_of (design_of design.now) t).lists j x) × (result < 2 ^ design.now.head.m) }
 {
     let m = design.head.m;
     output_of(&design.lists(t).part(m * j, m), x)
