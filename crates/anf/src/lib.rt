@@ -7,6 +7,7 @@ ghost use Rattle.std.specs.Prelude.{◌≡◌, ◌++◌, ◌^◌, ◌≤◌, len
 ghost use Rattle.reasons.specs.Numbers.{reason_of};
 ghost use Rattle.finite.specs.Maps.{repeats};
 ghost use Rattle.anf.specs.Tables.{entries_below, entry};
+ghost use Rattle.anf.specs.Terms.{before};
 ghost use Rattle.anf.specs.Inside.Words.{words_degree};
 ghost use Rattle.anf.specs.Transform.{greatest_width, transform_reason, transform_after, transformed};
 
@@ -17,6 +18,14 @@ use words::sum_subsets;
 
 /// The greatest width of a table.
 pub const GREATEST_WIDTH: usize = 6;
+
+/// Whether the term `a` stands before the term `b` in a list: the one function for the order of terms.
+#[tactic(auto, unfolding(crate::specs::Terms::before))]
+pub fn stands_before(a: u32, b: u32) -> bool
+    ensures { result ≡ before a b }
+{
+    a < b
+}
 
 /// Whether every entry is below the bound.
 pub fn entries_below(table: &[u8], bound: usize) -> bool

@@ -9,9 +9,9 @@ use lib.Dec.{eqb}
 use lib.ListN.{length, get_or}
 use Rattle.finite.specs.Tests.{any}
 use Rattle.finite.proofs.Testing.{any_none_more}
-use Rattle.design.specs.Design.{Stage}
-use Rattle.threshold.specs.Sharing.{sum}
-use Rattle.threshold.specs.Stages.{output}
+use Rattle.records.specs.Design.{Stage}
+use Rattle.sharing.specs.Sharing.{sum}
+use Rattle.sharing.specs.Stages.{output}
 use Rattle.checker.specs.Trials.{sums_wrong}
 use Rattle.checker.specs.Inside.Parts.{found}
 use Rattle.checker.proofs.Passes.{found_at, found_none}

@@ -8,16 +8,19 @@ use native.Mathlib.Omega.{arith}
 use lib.ListN.{length}
 use Rattle.design.specs.Limits.{greatest_shares}
 use Rattle.anf.specs.Tables.{entry}
-use Rattle.design.specs.Design.{Design, WellFormed, stage_of}
+use Rattle.records.specs.Design.{Design, stage_of}
+use Rattle.design.specs.WellFormed.{WellFormed}
 use Rattle.design.specs.Reading.{means, reading}
 use Rattle.design.proofs.Limits.{bounds}
 use Rattle.design.proofs.Theorems.{read_formed}
-use Rattle.threshold.specs.Sharing.{sum}
-use Rattle.threshold.specs.Stages.{component}
-use Rattle.threshold.specs.Chain.{handed, chained}
-use Rattle.threshold.specs.Running.{packed, five_sum, output_shares, running}
-use Rattle.threshold.proofs.Meetings.{AllBijective, met_once, outcome, setting_independent, value_independent, reads_equally}
-use Rattle.threshold.proofs.Packing.{share_fits_lem, packed_lt, packed_sum, packed_unpacked, unpacked_packed, unpacked_length, unpacked_fits, unpacked_sum}
+use Rattle.sharing.specs.Sharing.{sum}
+use Rattle.sharing.specs.Stages.{component}
+use Rattle.sharing.specs.Chain.{handed, chained}
+use Rattle.sharing.specs.Sharing.{packed}
+use Rattle.threshold.specs.Running.{five_sum, output_shares, running}
+use Rattle.sharing.proofs.Meetings.{AllBijective, met_once, outcome, setting_independent, value_independent, reads_equally}
+use Rattle.threshold.proofs.Packing.{share_fits_lem, packed_sum, packed_unpacked, unpacked_packed, unpacked_length, unpacked_fits, unpacked_sum}
+use Rattle.sharing.proofs.Packing.{packed_lt}
 use Rattle.threshold.proofs.Running.{running_success, running_sharing}
 use Rattle.checker.specs.Verdict.{verdict}
 use Rattle.checker.specs.Accepted.{Sound}
@@ -33,7 +36,8 @@ module _ (d : Design) (wf : WellFormed d) (a : Sound d) where
   bijective : AllBijective d.m d.s d.stages
   bijective t l =
       record {
-        fits = wf.stage t (within l);
+        table = (wf.stage t (within l)).table;
+        count = (wf.stage t (within l)).count;
         permutation = chain_permutes d wf a.box a.chain t (within l);
         correct = (a.stages t (within l)).correct;
         uniform = (a.stages t (within l)).uniform;

@@ -13,9 +13,10 @@ use borrow.Author.Tests.{eqb-true, eq-eqb}
 use Rattle.finite.specs.Tests.{all}
 use Rattle.finite.proofs.Testing.{all_at, all_intro}
 use Rattle.anf.specs.Tables.{entry, Permutation}
-use Rattle.design.specs.Design.{Stage, Design, WellFormed, no_stage}
-use Rattle.threshold.specs.Chain.{chained}
-use Rattle.threshold.proofs.Tables.{chained_lt, chained_next, chained_all, chain_tables}
+use Rattle.records.specs.Design.{Stage, Design, no_stage}
+use Rattle.design.specs.WellFormed.{WellFormed}
+use Rattle.sharing.specs.Chain.{chained}
+use Rattle.sharing.proofs.Tables.{chained_lt, chained_next, chained_all, chain_tables}
 use Rattle.checker.specs.Verdict.{chain_is_box}
 use Rattle.checker.specs.Accepted.{ChainIsBox, TablePermutes}
 

@@ -14,15 +14,16 @@ use Rattle.finite.proofs.Testing.{or_false_right, all_at, all_intro, all_fails, 
 use Rattle.anf.specs.Terms.{named, names}
 use Rattle.anf.proofs.Terms.{named_or}
 use Rattle.design.specs.Limits.{broken, greatest_width}
-use Rattle.design.specs.Design.{Stage, StageFits}
+use Rattle.records.specs.Design.{Stage}
+use Rattle.design.specs.WellFormed.{StageFits}
 use Rattle.design.proofs.Limits.{bounds}
-use Rattle.threshold.specs.Inside.Variables.{variables, names_every}
-use Rattle.threshold.specs.Stages.{depends_on, depends_on_all}
+use Rattle.sharing.specs.Inside.Variables.{variables, names_every}
+use Rattle.sharing.specs.Stages.{depends_on, depends_on_all}
 use Rattle.std.specs.Prelude.{Option, Some, None}
 use Rattle.checker.specs.Inside.Parts.{found, lists_name}
 use Rattle.checker.proofs.Passes.{found_at, found_none}
-use Rattle.threshold.proofs.Sharing.{place_lt}
-use Rattle.threshold.proofs.Dependence.{depends_listed}
+use Rattle.sharing.proofs.Sharing.{place_lt}
+use Rattle.sharing.proofs.Dependence.{depends_listed}
 
 -- ---- `variables_of`: p is the number of points of m variables
 

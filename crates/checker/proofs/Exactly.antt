@@ -17,12 +17,13 @@ use Rattle.finite.proofs.Testing.{any_none, first_is, clash}
 use Rattle.finite.proofs.Faults.{fault_either, fault_none}
 use Rattle.finite.proofs.Maps.{repeats_clash, repeats→injective}
 use Rattle.anf.specs.Tables.{entry}
-use Rattle.design.specs.Design.{Design, WellFormed, stage_of}
+use Rattle.records.specs.Design.{Design, stage_of}
+use Rattle.design.specs.WellFormed.{WellFormed}
 use Rattle.design.specs.Reading.{Reading, refused, means, reading}
 use Rattle.design.proofs.Theorems.{read_formed}
 use Rattle.design.proofs.Reasons.{refused_for, reason_range}
-use Rattle.threshold.specs.Stages.{correct, depends_on_all, non_complete, uniform}
-use Rattle.threshold.proofs.Tests.{correct↔, ignores_some↔, non_complete↔, not_non_complete, uniform↔}
+use Rattle.sharing.specs.Stages.{correct, depends_on_all, non_complete, uniform}
+use Rattle.sharing.proofs.Tests.{correct↔, ignores_some↔, non_complete↔, not_non_complete, uniform↔}
 use Rattle.checker.specs.Verdict.{answer, workspace_for, chain_is_box, judged, judged_reading, verdict}
 use Rattle.checker.specs.Accepted.{CorrectAt, SoundAt, SoundBefore, Sound, HasRoom, Accepted, ExplainedDesign, Explained}
 use Rattle.checker.specs.Accepted.{fault_8, fault_9, fault_10, fault_12, fault_13, fault_14, accepted, refusal, of_design}

@@ -7,7 +7,8 @@ use mathlib.Core.List.{List}
 use Rattle.reasons.specs.Numbers.{number}
 use Rattle.reasons.specs.declared.Reason.{Reason}
 use Rattle.reasons.specs.declared.Reason.TheVariants.{BoxRepeats, WorkspaceTooSmall, ChainIsNotBox}
-use Rattle.design.specs.Design.{Design, WellFormed}
+use Rattle.records.specs.Design.{Design}
+use Rattle.design.specs.WellFormed.{WellFormed}
 use mathlib.Core.Bool.{Bool, true, false, not}
 use Prim.Native.Nat.{ℕ, ◌^◌, ◌<◌, ◌≤◌}
 use native.Mathlib.Omega.{arith}

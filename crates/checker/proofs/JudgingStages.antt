@@ -12,11 +12,12 @@ use borrow.Author.Tests.{not-false}
 use Rattle.finite.specs.Tests.{any}
 use Rattle.finite.proofs.Faults.{fault_here, fault_past, fault_none}
 use Rattle.design.specs.Limits.{broken}
-use Rattle.design.specs.Design.{Stage, Design, WellFormed, stage_of}
+use Rattle.records.specs.Design.{Stage, Design, stage_of}
+use Rattle.design.specs.WellFormed.{WellFormed}
 use Rattle.design.proofs.Limits.{bounds}
-use Rattle.threshold.specs.Stages.{component, Correct, correct, depends_on_all, non_complete, uniform}
-use Rattle.threshold.proofs.Tests.{correct↔, not_non_complete}
-use Rattle.threshold.proofs.Stages.{stage_uniform_repeats}
+use Rattle.sharing.specs.Stages.{component, Correct, correct, depends_on_all, non_complete, uniform}
+use Rattle.sharing.proofs.Tests.{correct↔, not_non_complete}
+use Rattle.sharing.proofs.Stages.{stage_uniform_repeats}
 use Rattle.checker.specs.Verdict.{answer}
 use Rattle.checker.specs.Outcome.{refusal, refused_with}
 use Rattle.checker.specs.Trials.{correctness_at, uniformity_at, both_passes, trials_of, counted}
@@ -86,7 +87,7 @@ module _ (d : Design) (wf : WellFormed d) (t : ℕ) (h : t < d.k) where
             marks : not (uniform d.m d.s g) ≡ is_some u
             unfolding TablesPermute
             marks =
-                ap not (stage_uniform_repeats d.m d.s g (wf.stage t h) (tables t h) right) ∙ not-not _ ∙ sym (ap is_some x ∙ uniformity_stopped d.m d.s g)
+                ap not (stage_uniform_repeats d.m d.s g (wf.stage t h).table (wf.stage t h).count (tables t h) right) ∙ not-not _ ∙ sym (ap is_some x ∙ uniformity_stopped d.m d.s g)
 
             module _ (i : ℕ) (ei : i ≡ tries_until (2 ^ (d.m * d.s)) u) where
               more : i ≡ uniformity_at d t

@@ -23,8 +23,8 @@ use Rattle.finite.proofs.Elements.{has_none, has_with, has_with_other}
 use Rattle.finite.proofs.Powers.{eights}
 use Rattle.design.specs.Limits.{broken}
 use Rattle.design.proofs.Limits.{bounds}
-use Rattle.threshold.specs.Stages.{output}
-use Rattle.threshold.proofs.Output.{output_lt}
+use Rattle.sharing.specs.Stages.{output}
+use Rattle.sharing.proofs.Output.{output_lt}
 use Rattle.checker.specs.Verdict.{workspace_for, zeroed}
 use Rattle.checker.specs.Inside.Marks.{marked, mark, Clear}
 use Rattle.checker.specs.Inside.Parts.{found}

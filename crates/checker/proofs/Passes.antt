@@ -15,8 +15,8 @@ use Rattle.finite.specs.Maps.{repeats}
 use Rattle.finite.proofs.Testing.{and_intro, pick_true, pick_false, any_at, any_not, first_found, first_is, tried_all, tried_most}
 use Rattle.finite.proofs.Faults.{fault_either, fault_none}
 use Rattle.design.specs.Limits.{greatest_share_bits, greatest_stages}
-use Rattle.design.specs.Design.{Stage, Design, stage_of}
-use Rattle.threshold.specs.Stages.{output, correct}
+use Rattle.records.specs.Design.{Stage, Design, stage_of}
+use Rattle.sharing.specs.Stages.{output, correct}
 use Rattle.checker.specs.Trials.{sums_wrong, output_met, correctness_tries, uniformity_tries, correctness_at, uniformity_at, both_passes, trials_of}
 use Rattle.checker.specs.Inside.Parts.{found, FoundBelow, tries_until, stage_judged, stage_tries}
 use Rattle.checker.specs.declared.Verdict.{Verdict}

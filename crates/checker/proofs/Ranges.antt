@@ -17,7 +17,7 @@ use Rattle.std.proofs.lemmas.List.FromFn.{length-range_with_len, get_or-range_wi
 use Rattle.std.proofs.lemmas.Slice.Zip.{length-zip, get_or-zip}
 use Rattle.finite.specs.Tests.{tabulate}
 use Rattle.finite.proofs.Testing.{tabulate_length, tabulate_at}
-use Rattle.threshold.specs.Stages.{output}
+use Rattle.sharing.specs.Stages.{output}
 use Rattle.threshold.specs.Inside.Outputs.{left}
 use Rattle.threshold.specs.declared.blocks.Outputs.{Outputs}
 

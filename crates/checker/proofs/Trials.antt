@@ -12,7 +12,8 @@ use lib.Dec.{eqb}
 use borrow.Author.Tests.{eq-eqb, ne_eqb, not-true}
 use Rattle.finite.specs.Tests.{pick}
 use Rattle.finite.proofs.Testing.{pick_true, pick_false, pick_number}
-use Rattle.design.specs.Design.{Design, WellFormed, stage_of}
+use Rattle.records.specs.Design.{Design, stage_of}
+use Rattle.design.specs.WellFormed.{WellFormed}
 use Rattle.design.specs.Reading.{Reading, refused, means, head_of, head_fault, meaning, reading}
 use Rattle.design.specs.Limits.{Head}
 use Rattle.design.proofs.HeadAlone.{head_seven, fault_seven, head_range, refused_first, reads_head}
@@ -20,8 +21,8 @@ use Rattle.design.proofs.Walking.{head_refused}
 use Rattle.design.proofs.Written.{read_means}
 use Rattle.design.proofs.Theorems.{read_formed}
 use Rattle.design.proofs.Reasons.{reason_range}
-use Rattle.threshold.proofs.Tests.{correct↔, uniform↔}
-use Rattle.threshold.proofs.Stages.{stage_uniform_repeats}
+use Rattle.sharing.proofs.Tests.{correct↔, uniform↔}
+use Rattle.sharing.proofs.Stages.{stage_uniform_repeats}
 use Rattle.checker.specs.Verdict.{answer, workspace_for, judged_reading, judged, verdict}
 use Rattle.checker.specs.Trials.{correctness_at, uniformity_at, both_passes, trials_of, trials_by_outcome, trials, most_trials, forecast_for, no_forecast, forecast}
 use Rattle.checker.specs.Accepted.{CorrectAt, SoundAt, SoundBefore, Sound, ExplainedDesign}
@@ -77,7 +78,7 @@ module _ (d : Design) (wf : WellFormed d) (t : ℕ) (p : SoundBefore d t) where
   uniform_whole i l h =
       let table = chain_permutes d wf p.box p.chain i l in
       uniformity_all d.m d.s (stage_of d i)
-      (not-true _ (sym (stage_uniform_repeats d.m d.s (stage_of d i) (wf.stage i l) table h.correct) ∙ (uniform↔ d.m d.s (stage_of d i)).1 h.uniform))
+      (not-true _ (sym (stage_uniform_repeats d.m d.s (stage_of d i) (wf.stage i l).table (wf.stage i l).count table h.correct) ∙ (uniform↔ d.m d.s (stage_of d i)).1 h.uniform))
 
   both_whole : (i : ℕ) → i ≤ d.k → i ≤ t → both_passes d i ≡ 2 * i * 2 ^ (d.m * d.s)
   both_whole zero l h = omega (arith, both_none d)

@@ -2,11 +2,11 @@
 -- their shares"); then of a file: when it is accepted ("Verdict").
 use Rattle.std.specs.Prelude.{ℕ, ◌+◌, ◌^◌, ◌<◌, ◌≤◌, ◌≡◌, List}
 use Rattle.anf.specs.Tables.{entry, Permutation}
-use Rattle.design.specs.Design.{Design, stage_of}
+use Rattle.records.specs.Design.{Design, stage_of}
 use Rattle.design.specs.Reading.{refused, means, reading}
 use Rattle.design.specs.Refused.{RefusedFor}
-use Rattle.threshold.specs.Stages.{component, output, Correct, IgnoresSome, NonComplete, Uniform}
-use Rattle.threshold.specs.Chain.{chained}
+use Rattle.sharing.specs.Stages.{component, output, Correct, IgnoresSome, NonComplete, Uniform}
+use Rattle.sharing.specs.Chain.{chained}
 use Rattle.checker.specs.Verdict.{answer, workspace_for}
 use Rattle.checker.specs.declared.Verdict.{Verdict}
 

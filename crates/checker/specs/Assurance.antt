@@ -3,11 +3,11 @@
 use Rattle.std.specs.Prelude.{ℕ, ◌-◌, ◌*◌, ◌^◌, ◌<◌, ◌≡◌, Bool, true, List, eqb, length}
 use Rattle.anf.specs.Tables.{entry}
 use Rattle.design.specs.Limits.{greatest_shares}
-use Rattle.design.specs.Design.{Design, stage_of}
+use Rattle.records.specs.Design.{Design, stage_of}
 use Rattle.design.specs.Reading.{means, reading}
-use Rattle.threshold.specs.Sharing.{sum, setting}
-use Rattle.threshold.specs.Stages.{component}
-use Rattle.threshold.specs.Chain.{handed, times_passed, meetings, read_meetings}
+use Rattle.sharing.specs.Sharing.{sum, setting}
+use Rattle.sharing.specs.Stages.{component}
+use Rattle.sharing.specs.Chain.{handed, times_passed, meetings, read_meetings}
 use Rattle.threshold.specs.Running.{shares_fit, five_sum, as_number, as_bytes, output_shares, running}
 use Rattle.checker.specs.Accepted.{IgnoresSomeAt}
 

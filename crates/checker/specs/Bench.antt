@@ -1,8 +1,8 @@
 -- "Bench designs" of the verdict with its trials, of the forecast and of running: tables of files, what they are given, and answers. And how often what a
 -- component reads is met.
 use Rattle.std.specs.Prelude.{ℕ, List, [], ◌∷◌}
-use Rattle.design.specs.Design.{Stage}
-use Rattle.design.specs.Encode.{encode}
+use Rattle.records.specs.Design.{Stage}
+use Rattle.records.specs.Encode.{encode}
 use Rattle.design.specs.Bench.{file_d}
 use Rattle.threshold.specs.Running.{refused_run}
 use Rattle.threshold.specs.declared.Ran.{Ran}

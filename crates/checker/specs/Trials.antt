@@ -3,10 +3,10 @@
 use Rattle.std.specs.Prelude.{ℕ, ◌+◌, ◌*◌, ◌-◌, ◌^◌, Bool, not, ◌&&◌, ◌||◌, List, eqb, leb}
 use Rattle.finite.specs.Tests.{pick, tried, total}
 use Rattle.finite.specs.Maps.{met_before}
-use Rattle.design.specs.Design.{Stage, Design, stage_of}
+use Rattle.records.specs.Design.{Stage, Design, stage_of}
 use Rattle.design.specs.Reading.{head_of, head_fault, meaning}
 use Rattle.design.specs.Limits.{Head}
-use Rattle.threshold.specs.Stages.{output, sums_right}
+use Rattle.sharing.specs.Stages.{output, sums_right}
 use Rattle.checker.specs.Verdict.{workspace_for, verdict}
 use Rattle.checker.specs.declared.Verdict.{Verdict}
 use Rattle.checker.specs.declared.Judged.{Judged}

@@ -5,9 +5,9 @@ ghost use Rattle.anf.specs.Terms.{named, names};
 ghost use Rattle.records.specs.Inside.Terms.{terms_of};
 ghost use Rattle.design.specs.Inside.Held.{design_of};
 ghost use Rattle.design.specs.Inside.Lists.{lists_held};
-ghost use Rattle.threshold.specs.Sharing.{sum};
-ghost use Rattle.threshold.specs.Inside.Variables.{variables, names_every};
-ghost use Rattle.threshold.specs.Stages.{output};
+ghost use Rattle.sharing.specs.Sharing.{sum};
+ghost use Rattle.sharing.specs.Inside.Variables.{variables, names_every};
+ghost use Rattle.sharing.specs.Stages.{output};
 ghost use Rattle.checker.specs.Inside.Parts.{found, first_wrong, offending, first_met, FoundBelow, tries_until, lists_name};
 ghost use Rattle.checker.specs.Inside.Marks.{Clear, Cleared};
 

@@ -1,7 +1,7 @@
 // The chain of tables.
 ghost use Rattle.std.specs.Prelude.{◌≡◌, ◌^◌, ◌<◌};
 ghost use Rattle.design.specs.Inside.Held.{design_of};
-ghost use Rattle.threshold.specs.Chain.{chained};
+ghost use Rattle.sharing.specs.Chain.{chained};
 ghost use Rattle.checker.specs.Verdict.{chain_is_box};
 
 use design::DesignFile;

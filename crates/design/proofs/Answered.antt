@@ -7,7 +7,8 @@ use native.Mathlib.Omega.{arith}
 use lib.ListN.{get_or, get_or-append, drop}
 use Rattle.finite.specs.Tests.{tabulate}
 use Rattle.finite.proofs.Testing.{tabulate_length, tabulate_at}
-use Rattle.design.specs.Design.{Design, WellFormed}
+use Rattle.records.specs.Design.{Design}
+use Rattle.design.specs.WellFormed.{WellFormed}
 use Rattle.design.specs.Reading.{Reading, refused, means, reading, meaning, head_of, place, last_of}
 use Rattle.design.specs.Layout.{no_starts, refused_layout, read_layout, layout_of_reading, layout_of, starts_to, start_of}
 use Rattle.design.specs.Inside.Described.{Describes}

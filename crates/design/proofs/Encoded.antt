@@ -9,7 +9,9 @@ use Rattle.finite.proofs.Testing.{all_intro}
 use Rattle.anf.specs.Terms.{before}
 use Rattle.design.specs.Limits.{greatest_terms}
 use Rattle.records.specs.Bytes.{byte, u16_at, u32_at, two, four, term_bytes}
-use Rattle.design.specs.Design.{Design, Stage, no_stage, stage_of, list_of, TableFits, ListFits, WellFormed}
+use Rattle.records.specs.Design.{Design, Stage, no_stage, stage_of, list_of}
+use Rattle.anf.specs.Tables.{TableFits}
+use Rattle.design.specs.WellFormed.{ListFits, WellFormed}
 use Rattle.records.specs.Records.{join, a_record}
 use Rattle.design.specs.Reading.{last_of, number_of, kind_due, size_due, length_due, entry_fits, previous, term_fits, fault_at}
 use Rattle.design.specs.Inside.Framing.{frame_fault}

@@ -9,8 +9,8 @@ use Rattle.finite.proofs.Counting.{total_congr}
 use Rattle.records.specs.Records.{join, a_record, list_record, end_record}
 use Rattle.records.proofs.TermBytes.{length_term_bytes}
 use Rattle.records.proofs.Overwriting.{record_length, join_length}
-use Rattle.design.specs.Design.{Stage, Design, no_stage, stage_of}
-use Rattle.design.specs.Encode.{head_body, stage_bytes, encode}
+use Rattle.records.specs.Design.{Stage, Design, no_stage, stage_of}
+use Rattle.records.specs.Encode.{head_body, stage_bytes, encode}
 
 -- a stage: its table, and four bytes a list and a term
 pub stage_length : (g : Stage) → length (stage_bytes g) ≡ 4 + length g.table + total (length g.lists) (λ l. 4 + 4 * length (get_or g.lists l []))

@@ -5,9 +5,9 @@ use lib.ListN.{get_or}
 use lib.Dec.{eqb}
 use Rattle.finite.specs.Tests.{pick, tabulate}
 use Rattle.records.specs.Bytes.{term_bytes}
-use Rattle.design.specs.Design.{Stage, Design, stage_of}
+use Rattle.records.specs.Design.{Stage, Design, stage_of}
 use Rattle.records.specs.Records.{join, a_record}
-use Rattle.design.specs.Encode.{head_body}
+use Rattle.records.specs.Encode.{head_body}
 use Rattle.design.specs.Reading.{kind_due, last_of}
 use Rattle.design.specs.Limits.{Head}
 

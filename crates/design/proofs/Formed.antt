@@ -13,7 +13,8 @@ use Rattle.finite.proofs.Testing.{and_left, and_right, all_at, tabulate_length, 
 use Rattle.anf.specs.Terms.{before}
 use Rattle.design.specs.Limits.{greatest_terms}
 use Rattle.records.specs.Bytes.{u16_at, u32_at}
-use Rattle.design.specs.Design.{TableFits, ListFits, StageFits, WellFormed}
+use Rattle.anf.specs.Tables.{TableFits}
+use Rattle.design.specs.WellFormed.{ListFits, StageFits, WellFormed}
 use Rattle.design.specs.Reading.{number_of, kind_due, size_due, length_due, entry_fits, previous, term_fits, fault_at, means, reading, place, head_of, meaning, stage_at, table_at, list_at}
 use Rattle.design.specs.Limits.{Head}
 use Rattle.design.proofs.Records.{entry_below, body_2, body_3, previous_more, fault_framed, body_none}

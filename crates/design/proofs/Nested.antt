@@ -9,9 +9,10 @@ use borrow.Author.Tests.{ne_eqb}
 use Rattle.finite.specs.Tests.{tabulate}
 use Rattle.finite.proofs.Testing.{tabulate_congr, map_is}
 use Rattle.records.specs.Bytes.{term_bytes}
-use Rattle.design.specs.Design.{Design, no_stage, stage_of, list_of, WellFormed}
+use Rattle.records.specs.Design.{Design, no_stage, stage_of, list_of}
+use Rattle.design.specs.WellFormed.{WellFormed}
 use Rattle.records.specs.Records.{join, a_record}
-use Rattle.design.specs.Encode.{stage_bytes, encode}
+use Rattle.records.specs.Encode.{stage_bytes, encode}
 use Rattle.design.specs.Reading.{last_of, number_of, kind_due}
 use Rattle.design.proofs.Flat.{head_for, stage_body, body_of, record_of, flat}
 use Rattle.design.proofs.Found.{staged}

@@ -11,7 +11,7 @@ use Rattle.finite.proofs.Testing.{tabulate_congr}
 use Rattle.records.specs.Bytes.{Bytes}
 use Rattle.records.specs.Inside.Terms.{terms}
 use Rattle.design.specs.Limits.{greatest_records, greatest_share_bits}
-use Rattle.design.specs.Design.{stage_of}
+use Rattle.records.specs.Design.{stage_of}
 use Rattle.design.specs.Reading.{number_of, meaning}
 use Rattle.design.specs.Heads.{numbers, laid}
 use Rattle.design.specs.declared.heads.Head as heads

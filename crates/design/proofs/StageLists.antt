@@ -8,7 +8,7 @@ use lib.ListN.{length, get_or, take, drop, length-take, length-drop}
 use lib.Seq.{ext_get_or, get_or-take, get_or-drop, take_all, length-take-le}
 use Rattle.finite.proofs.Testing.{tabulate_length, tabulate_at}
 use Rattle.records.specs.Bytes.{Bytes, u16_at, term_bytes}
-use Rattle.design.specs.Design.{stage_of, list_of}
+use Rattle.records.specs.Design.{stage_of, list_of}
 use Rattle.design.specs.Reading.{head_of, last_of, number_of, place, meaning}
 use Rattle.design.specs.Inside.Described.{Describes}
 use Rattle.records.specs.Inside.Terms.{terms}

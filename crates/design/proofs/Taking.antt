@@ -14,8 +14,8 @@ use mir.Val.{Fits}
 use Rattle.records.specs.Bytes.{Bytes, u16_at, term_bytes}
 use Rattle.records.specs.Records.{join, a_record, end_record}
 use Rattle.records.proofs.Overwriting.{two_records_length}
-use Rattle.design.specs.Design.{Design, stage_of, list_of}
-use Rattle.design.specs.Encode.{head_body, stage_bytes, encode}
+use Rattle.records.specs.Design.{Design, stage_of, list_of}
+use Rattle.records.specs.Encode.{head_body, stage_bytes, encode}
 use Rattle.design.specs.Inside.Described.{Describes}
 use Rattle.design.specs.Reading.{number_of, meaning}
 use Rattle.design.specs.Layout.{Layout}

@@ -14,7 +14,7 @@ use Rattle.finite.specs.Tests.{tabulate}
 use Rattle.finite.proofs.Testing.{tabulate_congr, and_left, and_right}
 use Rattle.design.specs.Limits.{greatest_terms}
 use Rattle.records.specs.Bytes.{byte, u16_at, u32_at, term_bytes, Bytes}
-use Rattle.design.specs.Design.{Design, stage_of, list_of}
+use Rattle.records.specs.Design.{Design, stage_of, list_of}
 use Rattle.records.specs.Records.{join, a_record}
 use Rattle.design.specs.Inside.Described.{Describes}
 use Rattle.design.specs.Reading.{last_of, number_of, kind_due, size_due, length_due, means, reading, place, head_of, meaning, stage_at, table_at, list_at}

@@ -1,7 +1,7 @@
 -- The code's head as the definitions see it, and the design that a file with this head means.
 use Rattle.std.specs.Prelude.{ℕ, List, Result, Ok, Err}
 use Rattle.design.specs.Limits.{Head}
-use Rattle.design.specs.Design.{Design}
+use Rattle.records.specs.Design.{Design}
 use Rattle.design.specs.Reading.{meaning}
 use Rattle.design.specs.Layout.{HeadRead, refused_head, Layout}
 use Rattle.design.specs.declared.heads.Head as heads

@@ -2,8 +2,9 @@
 ghost use Rattle.std.specs.Prelude.{◌≡◌, map, ◌*◌, ◌^◌, ◌<◌, length};
 ghost use Rattle.records.specs.Bytes.{Bytes};
 ghost use Rattle.records.specs.Records.{join};
-ghost use Rattle.design.specs.Design.{WellFormed, stage_of, list_of};
-ghost use Rattle.design.specs.Encode.{stage_bytes};
+ghost use Rattle.design.specs.WellFormed.{WellFormed};
+ghost use Rattle.records.specs.Design.{stage_of, list_of};
+ghost use Rattle.records.specs.Encode.{stage_bytes};
 ghost use Rattle.design.specs.Reading.{means, reading};
 ghost use Rattle.design.specs.Inside.Described.{Describes};
 ghost use Rattle.design.specs.Heads.{numbers, laid, design_by};

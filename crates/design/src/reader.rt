@@ -14,9 +14,9 @@ ghost use Rattle.design.specs.Heads.{numbers, head_reading};
 ghost use Rattle.design.specs.Answers.{reading_of, layout_read};
 
 use super::{DesignFile, GREATEST_RECORDS, Head, ReadError};
-use anf::entries_below;
+use anf::{entries_below, stands_before};
 use reasons::Reason;
-use records::{Kind, Terms, stands_before, u16_at};
+use records::{Kind, Terms, u16_at};
 
 // Whether a record of this kind may have the length `n`.
 fn length_fits(kind: Kind, size: usize, n: usize) -> bool

@@ -15,8 +15,8 @@ use Rattle.finite.specs.Sets.{has}
 use Rattle.finite.proofs.Testing.{bool_ext, not_true_false, clash, all_at, all_intro, any_at, any_some, any_congr, none_any, pick_true, pick_false}
 use Rattle.finite.proofs.Counting.{count_one, count_some, count_unique, count_none, count_has}
 use Rattle.finite.proofs.Elements.{has_none, sets-eq, some_element, has_with, has_with_other}
-use Rattle.threshold.proofs.Sharing.{place_lt, place_eq, share_lt, share_has}
-use Rattle.threshold.specs.Sharing.{share}
+use Rattle.sharing.proofs.Sharing.{place_lt, place_eq, share_lt, share_has}
+use Rattle.sharing.specs.Sharing.{share}
 use Rattle.direct.specs.Direct.{is_product, chosen}
 use Rattle.direct.proofs.Products.{product_at, at_product}
 use Rattle.direct.proofs.Placement.{chosen_lt, chosen_has}

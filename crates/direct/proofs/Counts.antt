@@ -19,7 +19,7 @@ use Rattle.finite.proofs.Elements.{ones_count, some_element, ones_top}
 use Rattle.direct.specs.Direct.{is_product}
 use Rattle.direct.proofs.Products.{product_none}
 use Rattle.direct.proofs.Expansion.{product_blocks}
-use Rattle.threshold.proofs.Sharing.{pow_step}
+use Rattle.sharing.proofs.Sharing.{pow_step}
 
 -- ---- the subsets of u
 

@@ -16,7 +16,8 @@ use Rattle.anf.specs.NormalForm.{subset_sum}
 use Rattle.anf.specs.Tables.{entry}
 use Rattle.anf.proofs.Passing.{passing_terms, passing_length}
 use Rattle.design.specs.Limits.{greatest_terms, broken}
-use Rattle.design.specs.Design.{TableFits, ListFits, StageFits, WellFormed}
+use Rattle.anf.specs.Tables.{TableFits}
+use Rattle.design.specs.WellFormed.{ListFits, StageFits, WellFormed}
 use Rattle.design.proofs.Limits.{bounds}
 use Rattle.direct.specs.Direct.{is_product, stands, direct_list, direct_stage, direct_sharing}
 use Rattle.direct.proofs.Counts.{products_most}

@@ -14,8 +14,8 @@ use Rattle.finite.specs.Sets.{has}
 use Rattle.finite.proofs.Testing.{true_or_false, clash, and_left, any_some, any_none, first_is, first_none, pick_true, pick_false}
 use Rattle.finite.proofs.Counting.{total_congr, total_mono, count_has, total_swap, total_const}
 use Rattle.finite.proofs.Elements.{has_none, some_element, ones_count, made_lt, made_has}
-use Rattle.threshold.specs.Sharing.{share}
-use Rattle.threshold.proofs.Sharing.{share_lt, share_has}
+use Rattle.sharing.specs.Sharing.{share}
+use Rattle.sharing.proofs.Sharing.{share_lt, share_has}
 use Rattle.direct.specs.Direct.{is_product, chosen, after, component_for}
 use Rattle.direct.proofs.Products.{product_at}
 

@@ -14,8 +14,8 @@ use Rattle.finite.specs.Sets.{subset, has}
 use Rattle.finite.proofs.Testing.{bool_ext, all_at, all_intro, all_congr, all_and}
 use Rattle.finite.proofs.Counting.{count_congr, bit_inj}
 use Rattle.finite.proofs.Elements.{has_none, sets-eq, unlike, has_xor, subset_all, has_low}
-use Rattle.threshold.specs.Sharing.{share}
-use Rattle.threshold.proofs.Sharing.{place_lt, share_lt, share_has}
+use Rattle.sharing.specs.Sharing.{share}
+use Rattle.sharing.proofs.Sharing.{place_lt, share_lt, share_has}
 use Rattle.direct.specs.Direct.{is_product}
 
 pub product_at : (m s u p : ℕ) → is_product m s u p ≡ true → (v : ℕ) → v < m → count s (λ j. has p (m * j + v)) ≡ bit (has u v)

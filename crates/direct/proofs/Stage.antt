@@ -23,13 +23,13 @@ use Rattle.anf.specs.Tables.{entry}
 use Rattle.anf.proofs.Terms.{clear_add, subset_clear}
 use Rattle.anf.proofs.Passing.{value_at_passing, table_terms, passing_congr}
 use Rattle.anf.proofs.Degree.{degree_at}
-use Rattle.design.specs.Design.{TableFits}
-use Rattle.threshold.specs.Sharing.{share, sum, with_share}
-use Rattle.threshold.specs.Inside.Variables.{variables}
-use Rattle.threshold.specs.Stages.{output, component, Correct, Ignores, NonComplete}
-use Rattle.threshold.proofs.Sharing.{place_lt, share_lt, sum_lt, with_own, setting_with, share_bit, place_div, place_mod}
-use Rattle.threshold.proofs.Output.{output_bit, component_eq}
-use Rattle.threshold.proofs.Dependence.{clear_variables, setting_clear}
+use Rattle.anf.specs.Tables.{TableFits}
+use Rattle.sharing.specs.Sharing.{share, sum, with_share}
+use Rattle.sharing.specs.Inside.Variables.{variables}
+use Rattle.sharing.specs.Stages.{output, component, Correct, Ignores, NonComplete}
+use Rattle.sharing.proofs.Sharing.{place_lt, share_lt, sum_lt, with_own, setting_with, share_bit, place_div, place_mod}
+use Rattle.sharing.proofs.Output.{output_bit, component_eq}
+use Rattle.sharing.proofs.Dependence.{clear_variables, setting_clear}
 use Rattle.direct.specs.Direct.{is_product, chosen, stands, direct_list, direct_lists, direct_stage, direct_sharing}
 use Rattle.direct.proofs.Products.{product_term}
 use Rattle.direct.proofs.Expansion.{expansion}

@@ -7,7 +7,7 @@ use Prim.Native.Nat.{ℕ, ◌+◌, ◌≤◌, ◌<◌}
 use native.Mathlib.Omega.{arith}
 use Rattle.anf.specs.NormalForm.{degree}
 use Rattle.anf.specs.Tables.{entry}
-use Rattle.design.specs.Design.{Design}
+use Rattle.records.specs.Design.{Design}
 use Rattle.design.proofs.Theorems.{read_formed}
 use Rattle.checker.specs.Verdict.{answer, workspace_for, judged, verdict}
 use Rattle.checker.specs.Accepted.{ExplainedDesign, fault_8, fault_9, fault_10, fault_12, fault_13, fault_14, accepted}

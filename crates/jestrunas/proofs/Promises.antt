@@ -26,8 +26,10 @@ use Rattle.anf.proofs.Answers as answers
 use Rattle.anf.proofs.Bench as anf_bench
 use Rattle.design.specs.Limits.{broken, checked, head_answer}
 use Rattle.records.specs.Bytes.{Bytes}
-use Rattle.design.specs.Design.{Stage, Design, TableFits, StageFits, WellFormed, SameMeaning}
-use Rattle.design.specs.Encode.{encode}
+use Rattle.records.specs.Design.{Stage, Design}
+use Rattle.anf.specs.Tables.{TableFits}
+use Rattle.design.specs.WellFormed.{StageFits, WellFormed, SameMeaning}
+use Rattle.records.specs.Encode.{encode}
 use Rattle.design.specs.Reading.{refused, means, reading}
 use Rattle.design.specs.Refused.{RefusedFor}
 use Rattle.design.specs.Bench as bench_design
@@ -35,10 +37,10 @@ use Rattle.design.proofs.Limits as limits
 use Rattle.design.proofs.Theorems as design_theorems
 use Rattle.design.proofs.Reasons as reasons
 use Rattle.design.proofs.Bench as design_bench
-use Rattle.threshold.specs.Stages.{output, component, Correct, Ignores, NonComplete, Uniform, CountedUniform}
-use Rattle.threshold.specs.Chain.{read_meetings}
+use Rattle.sharing.specs.Stages.{output, component, Correct, Ignores, NonComplete, Uniform, CountedUniform}
+use Rattle.sharing.specs.Chain.{read_meetings}
 use Rattle.threshold.specs.Running.{running}
-use Rattle.threshold.proofs.Stages.{stage_uniform↔counted}
+use Rattle.sharing.proofs.Stages.{stage_uniform↔counted}
 use Rattle.checker.specs.Verdict.{answer, workspace_for, verdict}
 use Rattle.checker.specs.Trials.{trials_by_outcome, trials, judging, forecast}
 use Rattle.checker.specs.Accepted.{ChainIsBox, TablePermutes, Accepted, Explained}
@@ -123,7 +125,7 @@ one_meaning_one_file = design_theorems.one_meaning_one_file
 -- For permutations uniform agrees with the count in document 003.
 pub uniform_counted : (w s : ℕ) (g : Stage) → StageFits w s g → Permutation w g.table → Correct w s (component w g.lists) g.table
     → Uniform w s (output g.lists) g.table ↔ CountedUniform w s (output g.lists) g.table
-uniform_counted = stage_uniform↔counted
+uniform_counted w s g fits = stage_uniform↔counted w s g fits.table fits.count
 
 -- ---- The verdict
 

@@ -6,11 +6,12 @@ use mathlib.Core.List.{List}
 use Prim.Native.Nat.{ℕ, ◌+◌, ◌^◌, ◌<◌}
 use Rattle.finite.proofs.Maps.{injective_then}
 use Rattle.anf.specs.Tables.{Permutation, entry}
-use Rattle.design.specs.Design.{Design, WellFormed}
+use Rattle.records.specs.Design.{Design}
+use Rattle.design.specs.WellFormed.{WellFormed}
 use Rattle.design.proofs.Theorems.{read_formed}
-use Rattle.threshold.specs.Stages.{component, output, Correct, NonComplete, Uniform}
-use Rattle.threshold.specs.Chain.{chained}
-use Rattle.threshold.proofs.Tables.{chained_append}
+use Rattle.sharing.specs.Stages.{component, output, Correct, NonComplete, Uniform}
+use Rattle.sharing.specs.Chain.{chained}
+use Rattle.sharing.proofs.Tables.{chained_append}
 use Rattle.checker.specs.Verdict.{answer, verdict}
 use Rattle.checker.specs.Accepted.{ChainIsBox, SoundAt, Sound}
 use Rattle.checker.specs.Assurance.{Assured, Blind}

@@ -14,7 +14,7 @@ use Rattle.finite.proofs.Testing.{clash, not_true_false, and_intro, and_left, an
 use Rattle.finite.proofs.Faults.{fault_either, fault_none}
 use Rattle.records.proofs.Producing.{success_file, success_rest, refusal_after}
 use Rattle.design.specs.Limits.{greatest_stages}
-use Rattle.design.specs.Design.{Design}
+use Rattle.records.specs.Design.{Design}
 use Rattle.design.specs.Reading.{refused, means, reading, reason_of, meaning}
 use Rattle.design.proofs.Written.{read_means}
 use Rattle.design.proofs.Reasons.{reason_range, reason_none, reason_some}

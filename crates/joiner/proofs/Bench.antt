@@ -6,7 +6,7 @@ use lib.ListN.{length}
 use Rattle.records.specs.Bytes.{term_bytes}
 use Rattle.records.specs.Records.{join, a_record}
 use Rattle.records.specs.Writing.{writing_answer, writing_after}
-use Rattle.design.specs.Encode.{stage_bytes, encode}
+use Rattle.records.specs.Encode.{stage_bytes, encode}
 use Rattle.design.proofs.Bench as reading
 use Rattle.joiner.specs.Joining.{joined, joined_reason, joining, joined_after}
 use Rattle.joiner.specs.Bench.{rows}

@@ -11,8 +11,10 @@ use lib.Seq.{get_or-append-add}
 use Rattle.finite.proofs.Testing.{tabulate_at, map_is}
 use Rattle.anf.specs.Tables.{entry}
 use Rattle.design.specs.Limits.{greatest_stages, broken}
-use Rattle.design.specs.Design.{Stage, Design, TableFits, StageFits, WellFormed, no_stage, stage_of}
-use Rattle.design.specs.Encode.{encode}
+use Rattle.records.specs.Design.{Stage, Design, no_stage, stage_of}
+use Rattle.anf.specs.Tables.{TableFits}
+use Rattle.design.specs.WellFormed.{StageFits, WellFormed}
+use Rattle.records.specs.Encode.{encode}
 use Rattle.design.specs.Reading.{means, reading}
 use Rattle.design.proofs.Limits.{bounds, unbroken}
 use Rattle.design.proofs.Written.{read_means}

@@ -19,8 +19,9 @@ use Rattle.records.specs.declared.Produced.{Produced}
 use Rattle.records.proofs.Joined.{join_map_append}
 use Rattle.records.proofs.Producing as rules
 use Rattle.design.specs.Limits.{greatest_stages, broken}
-use Rattle.design.specs.Design.{Design, TableFits}
-use Rattle.design.specs.Encode.{stage_bytes, encode}
+use Rattle.records.specs.Design.{Design}
+use Rattle.anf.specs.Tables.{TableFits}
+use Rattle.records.specs.Encode.{stage_bytes, encode}
 use Rattle.design.specs.Reading.{refused, means, reading}
 use Rattle.design.proofs.Limits.{bounds, unbroken}
 use Rattle.design.proofs.Written.{read_means}

@@ -9,8 +9,8 @@ use lib.ListN.{length, length-append}
 use Rattle.records.specs.Bytes.{Bytes}
 use Rattle.records.specs.Records.{join}
 use Rattle.records.proofs.Joined.{join_map_append}
-use Rattle.design.specs.Design.{Stage, Design}
-use Rattle.design.specs.Encode.{stage_bytes}
+use Rattle.records.specs.Design.{Stage, Design}
+use Rattle.records.specs.Encode.{stage_bytes}
 use Rattle.design.specs.Reading.{means, reading}
 use Rattle.design.proofs.FileLength.{parts_length}
 use Rattle.design.proofs.Theorems.{read_formed, read_encodes}

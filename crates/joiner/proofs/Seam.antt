@@ -9,13 +9,15 @@ use native.Mathlib.Omega.{arith}
 use lib.ListN.{length}
 use Rattle.finite.proofs.Testing.{true_or_false}
 use Rattle.design.specs.Limits.{greatest_shares}
-use Rattle.design.specs.Design.{Design, WellFormed}
+use Rattle.records.specs.Design.{Design}
+use Rattle.design.specs.WellFormed.{WellFormed}
 use Rattle.design.proofs.Limits.{bounds}
 use Rattle.design.proofs.Theorems.{read_formed}
-use Rattle.threshold.specs.Chain.{handed}
+use Rattle.sharing.specs.Chain.{handed}
 use Rattle.threshold.specs.Running.{shares_fit, as_number, as_bytes, running}
-use Rattle.threshold.proofs.Stages.{handed_lt}
-use Rattle.threshold.proofs.Packing.{share_fits_lem, packed_lt}
+use Rattle.sharing.proofs.Stages.{handed_lt}
+use Rattle.threshold.proofs.Packing.{share_fits_lem}
+use Rattle.sharing.proofs.Packing.{packed_lt}
 use Rattle.threshold.proofs.Running.{handed_append, running_unfit, running_success, running_sharing}
 use Rattle.joiner.specs.Joining.{joined_design, joined, Joinable, running_onward}
 use Rattle.joiner.proofs.Formed.{joined_reads}

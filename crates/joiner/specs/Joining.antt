@@ -6,8 +6,8 @@ use Rattle.anf.specs.Tables.{entry}
 use Rattle.records.specs.Writing.{writing_answer, writing_after}
 use Rattle.records.specs.declared.Produced.{Produced}
 use Rattle.design.specs.Limits.{greatest_stages}
-use Rattle.design.specs.Design.{Design}
-use Rattle.design.specs.Encode.{encode}
+use Rattle.records.specs.Design.{Design}
+use Rattle.records.specs.Encode.{encode}
 use Rattle.design.specs.Reading.{refused, means, reading, reason_of, meaning}
 use Rattle.threshold.specs.Running.{running}
 use Rattle.threshold.specs.declared.Ran.{Ran}

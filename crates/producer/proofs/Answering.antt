@@ -20,7 +20,7 @@ use Rattle.anf.specs.Transform.{transform_after, transformed}
 use Rattle.anf.proofs.Answers.{input_answer, transformed_degree}
 use Rattle.anf.proofs.Tables.{entries_at}
 use Rattle.design.specs.Limits.{broken}
-use Rattle.design.specs.Design.{TableFits}
+use Rattle.anf.specs.Tables.{TableFits}
 use Rattle.std.specs.Prelude.{Ok, Err}
 use Rattle.reasons.specs.Numbers.{number}
 use Rattle.reasons.specs.declared.Reason.{Reason}

@@ -15,9 +15,9 @@ use Rattle.anf.specs.Tables.{entries_below}
 use Rattle.design.specs.Limits.{broken}
 use Rattle.records.specs.Bytes.{term_bytes}
 use Rattle.records.specs.Records.{join, a_record}
-use Rattle.design.specs.Encode.{stage_bytes, encode}
+use Rattle.records.specs.Encode.{stage_bytes, encode}
 use Rattle.records.specs.Writing.{writing_answer, writing_after}
-use Rattle.threshold.specs.Sharing.{share}
+use Rattle.sharing.specs.Sharing.{share}
 use Rattle.direct.specs.Direct.{is_product, chosen, is_outside, loads, placed, component_for, published, stands, direct_list, direct_lists, direct_stage, direct_sharing}
 use Rattle.producer.specs.Producing.{produced, produced_reason, producing, output_after}
 use Rattle.producer.specs.Bench.{rows}

@@ -20,7 +20,7 @@ use Rattle.anf.specs.NormalForm.{subset_sum, degree}
 use Rattle.anf.specs.Tables.{entry}
 use Rattle.anf.proofs.Passing.{passing_length}
 use Rattle.anf.proofs.SubsetSums.{subset_sum_lt}
-use Rattle.design.specs.Design.{TableFits}
+use Rattle.anf.specs.Tables.{TableFits}
 use Rattle.design.proofs.FileLength.{stage_length, encode_length}
 use Rattle.direct.specs.Direct.{is_product, chosen, Loads, placed, stands, direct_list, direct_stage, direct_sharing}
 use Rattle.direct.proofs.Products.{product_term}

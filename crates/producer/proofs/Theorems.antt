@@ -18,13 +18,13 @@ use Rattle.anf.specs.Tables.{entry}
 use Rattle.anf.specs.NormalForm.{degree}
 use Rattle.anf.proofs.Tables.{entries_at, entries_intro}
 use Rattle.design.specs.Limits.{broken}
-use Rattle.design.specs.Encode.{encode}
+use Rattle.records.specs.Encode.{encode}
 use Rattle.design.specs.Reading.{means, reading}
 use Rattle.design.proofs.Limits.{bounds, head_number}
 use Rattle.design.proofs.Theorems.{encode_reads}
 use Rattle.records.proofs.Producing.{success_file, success_rest, refusal_after}
-use Rattle.threshold.specs.Stages.{component, Correct, NonComplete}
-use Rattle.threshold.specs.Chain.{chained}
+use Rattle.sharing.specs.Stages.{component, Correct, NonComplete}
+use Rattle.sharing.specs.Chain.{chained}
 use Rattle.direct.specs.Direct.{loads, Loads, placed, component_for, published, direct_stage, direct_sharing, Shareable, Box}
 use Rattle.producer.specs.Producing.{produced, produced_reason, Succeeds, output_after}
 use Rattle.producer.proofs.Answering.{TableTested, table_tested, reason_placement, reason_degree, reason_last}

@@ -7,7 +7,7 @@ use native.Mathlib.Omega.{arith}
 use lib.ListN.{length, get_or, take, length-append}
 use Rattle.finite.proofs.Testing.{tabulate_at, tabulate_length}
 use Rattle.records.specs.Records.{join, a_record, list_record, end_record}
-use Rattle.design.specs.Encode.{stage_bytes, encode}
+use Rattle.records.specs.Encode.{stage_bytes, encode}
 use Rattle.records.specs.Inside.Overwriting.{list_records}
 use Rattle.records.specs.Inside.Writes.{Writes}
 use Rattle.records.specs.declared.writer.Writer.{Writer}

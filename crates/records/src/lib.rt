@@ -9,7 +9,7 @@ mod writer; // writer.rt: records written one behind the other
 pub use bytes::u16_at;
 pub use kind::Kind;
 use reasons::Reason;
-pub use terms::{Terms, TermsIter, stands_before};
+pub use terms::{Terms, TermsIter};
 pub use writer::{Writer, record_size};
 
 /// What C is answered of what writes a file: the number of a refusal, or 0 and the length of the file. C has no Result.

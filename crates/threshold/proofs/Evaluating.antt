@@ -1,27 +1,59 @@
 -- The functions of `engine` at each way out and for a turn, over plain values: ls are lists, j is a component.
 -- Lists are read from the last down: each step adds the value of one list below those so far, and the last step gives the output of all.
 -- Assumes nothing.
-use mathlib.Core.Path.{◌≡◌, sym, ap, ◌∙◌}
-use mathlib.Core.List.{List, []}
+use mathlib.Core.Path.{◌≡◌, refl, sym, ap, ◌∙◌}
+use mathlib.Core.List.{List, [], ◌∷◌}
+use lib.Dec.{eqb}
+use borrow.Author.Tests.{eqb-true, eq-eqb}
+use Rattle.std.specs.Int.{from_bool}
+use Rattle.finite.specs.Tests.{pick}
+use Rattle.finite.specs.Sets.{subset}
+use Rattle.finite.proofs.Testing.{bool_ext}
 use Prim.Native.Nat.{ℕ, ◌+◌, ◌-◌, ◌*◌, ◌/◌, ◌^◌, ◌≤◌, ◌<◌}
 use native.Mathlib.Nat.{lt_of_lt_of_le, mul-le-mul_left, mul-suc}
 use native.Mathlib.Omega.{arith}
-use lib.Bits.{bit_and, bit_xor, xor_zero_r}
-use Rattle.finite.proofs.Xor.{xor_and}
+use lib.Bits.{bit_and, bit_or, bit_xor, xor_zero_r, or_add_and}
+use Rattle.finite.proofs.Xor.{xor_and, xor_assoc}
 use lib.Pow.{pow_mono, pow_pos}
 use lib.ListN.{length, get_or, take, drop, length-drop}
 use lib.Seq.{length-take-le}
-use mathlib.Core.Bool.{false}
+use mathlib.Core.Bool.{Bool, true, false}
 use mir.Syntax.{w32, w64}
 use mir.Val.{Fits}
 use Rattle.anf.specs.Terms.{value_at}
 use Rattle.anf.proofs.Terms.{value_at_lt}
 use Rattle.design.specs.Limits.{greatest_width, greatest_share_bits, broken}
 use Rattle.design.proofs.Limits.{bounds}
-use Rattle.threshold.specs.Sharing.{sum}
-use Rattle.threshold.specs.Stages.{output, component}
-use Rattle.threshold.proofs.Sharing.{sum_none, sum_step, sum_lt}
-use Rattle.threshold.proofs.Output.{output_lt, output_none, output_next, output_share}
+use Rattle.sharing.specs.Sharing.{sum}
+use Rattle.sharing.specs.Stages.{output, component}
+use Rattle.sharing.proofs.Sharing.{sum_none, sum_step, sum_lt}
+use Rattle.sharing.proofs.Output.{output_lt, output_none, output_next, output_share}
+
+-- ---- `value_of`: v is that of the terms so far, l are those that are left
+
+one_there : (t x : ℕ) → eqb (bit_or t x) x ≡ subset t x
+unfolding subset
+one_there t x =
+    bool_ext (eqb (bit_or t x) x) (eqb (bit_and t x) t)
+    (λ h. eq-eqb _ _ (omega (arith, or_add_and t x, eqb-true _ _ h)))
+    (λ h. eq-eqb _ _ (omega (arith, or_add_and t x, eqb-true _ _ h)))
+
+one_is : (b : Bool) → from_bool b ≡ pick b 1 0
+one_is true = refl
+one_is false = refl
+
+module _ (ts l : List ℕ) (x v : ℕ) (i : bit_xor v (value_at l x) ≡ value_at ts x) where
+  -- the first of them is the term t, and r is whether it is 1
+  pub value_more : (t r : ℕ) (l' : List ℕ) → l ≡ t ∷ l' → r ≡ from_bool (eqb (bit_or t x) x) → bit_xor (bit_xor v r) (value_at l' x) ≡ value_at ts x
+  unfolding value_at
+  value_more t r l' e er =
+      let p : r ≡ pick (subset t x) 1 0 = er ∙ ap from_bool (one_there t x) ∙ one_is (subset t x) in
+      xor_assoc v r (value_at l' x) ∙ ap (λ (a : ℕ). bit_xor v (bit_xor a (value_at l' x))) p ∙ rw e at i
+
+  -- none is left
+  pub value_all : l ≡ [] → v ≡ value_at ts x
+  unfolding value_at
+  value_all e = sym (xor_zero_r v) ∙ rw e at i
 
 -- ---- `output_of`: y is the output of the lists from the i-th on
 

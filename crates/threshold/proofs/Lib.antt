@@ -1,12 +1,4 @@
--- Laws of sharings, stages and chains.
-pub mod Sharing
-pub mod Output
-pub mod Carried
-pub mod Tests
-pub mod Tables
-pub mod Stages
-pub mod Meetings
-pub mod Dependence
+-- Laws of the stages' outputs, and of running.
 pub mod Packing
 pub mod Running
 pub mod Evaluating

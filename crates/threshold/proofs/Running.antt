@@ -8,13 +8,15 @@ use native.Mathlib.Numerals.{add-one}
 use lib.ListN.{length, get_or}
 use Rattle.finite.proofs.Testing.{pick_true, pick_false}
 use Rattle.design.specs.Limits.{greatest_shares}
-use Rattle.design.specs.Design.{Stage, Design, no_stage}
+use Rattle.records.specs.Design.{Stage, Design, no_stage}
 use Rattle.design.specs.Reading.{Reading, refused, means, reading}
-use Rattle.threshold.specs.Stages.{output}
-use Rattle.threshold.specs.Chain.{handed}
-use Rattle.threshold.specs.Running.{packed, unpacked, shares_fit, as_bytes, refused_run, finished_run, running_on, running}
-use Rattle.threshold.proofs.Stages.{stage_output_lt}
-use Rattle.threshold.proofs.Packing.{packed_lt, packed_unpacked, unpacked_packed, unpacked_fits, share_fits_lem}
+use Rattle.sharing.specs.Stages.{output}
+use Rattle.sharing.specs.Chain.{handed}
+use Rattle.sharing.specs.Sharing.{packed}
+use Rattle.threshold.specs.Running.{unpacked, shares_fit, as_bytes, refused_run, finished_run, running_on, running}
+use Rattle.sharing.proofs.Stages.{stage_output_lt}
+use Rattle.sharing.proofs.Packing.{packed_lt}
+use Rattle.threshold.proofs.Packing.{packed_unpacked, unpacked_packed, unpacked_fits, share_fits_lem}
 
 -- ---- the chain
 

@@ -17,15 +17,18 @@ use Rattle.finite.proofs.Testing.{all_intro, all_fails, tabulate_more}
 use Rattle.reasons.specs.Numbers.{number}
 use Rattle.reasons.specs.declared.Reason.{Reason}
 use Rattle.design.specs.Limits.{greatest_width, greatest_shares, broken}
-use Rattle.design.specs.Design.{Stage, Design, WellFormed, no_stage}
+use Rattle.records.specs.Design.{Stage, Design, no_stage}
+use Rattle.design.specs.WellFormed.{WellFormed}
 use Rattle.design.specs.Reading.{refused, means, reading}
 use Rattle.design.proofs.Limits.{bounds}
-use Rattle.threshold.specs.Stages.{output, component}
-use Rattle.threshold.specs.Chain.{handed}
+use Rattle.sharing.specs.Stages.{output, component}
+use Rattle.sharing.specs.Chain.{handed}
 use Rattle.threshold.specs.Inside.Outcomes.{finished}
-use Rattle.threshold.specs.Running.{packed, unpacked, share_fits, shares_fit, five_zeros, refused_run, running_on, running}
+use Rattle.sharing.specs.Sharing.{packed}
+use Rattle.threshold.specs.Running.{unpacked, share_fits, shares_fit, five_zeros, refused_run, running_on, running}
 use Rattle.threshold.specs.declared.Ran.{Ran}
-use Rattle.threshold.proofs.Packing.{share_fits_lem, packed_none, packed_next, packed_lt, packed_small, unpacked_filled}
+use Rattle.threshold.proofs.Packing.{share_fits_lem, packed_small, unpacked_filled}
+use Rattle.sharing.proofs.Packing.{packed_none, packed_next, packed_lt}
 use Rattle.threshold.proofs.Running.{Sent, sent_start, sent_fits, sent_next, running_as, running_refused, unfit_run, fit_run}
 
 -- ---- `share_fits`: v is share j

@@ -29,7 +29,7 @@ use Rattle.anf.specs.Terms.{value_at}
 use Rattle.anf.specs.Transform.{transformed}
 use Rattle.anf.proofs.SubsetSums.{subset_sum_ext, subset_sum_xor, subset_sum_none}
 use Rattle.anf.proofs.Terms.{value_at_lt}
-use Rattle.threshold.specs.Stages.{output}
+use Rattle.sharing.specs.Stages.{output}
 use Rattle.threshold.specs.Inside.Blocks.{outputs_from, term_added, terms_added, coefficient, coefficients, Ahead}
 use Rattle.threshold.specs.Inside.Outputs.{outputs_left}
 

@@ -70,7 +70,7 @@ pub struct Outputs<'a> {
 
 impl<'a> Outputs<'a> {
     ghost use Rattle.std.specs.Prelude.{length};
-    ghost use Rattle.threshold.specs.Stages.{output};
+    ghost use Rattle.sharing.specs.Stages.{output};
     ghost use Rattle.threshold.specs.Inside.Outputs.{left};
 
     /// Those of all sharings.

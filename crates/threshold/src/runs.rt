@@ -1,10 +1,11 @@
 // Running stages and chains on five shares, the greatest number of them.
 ghost use Rattle.std.specs.Prelude.{◌≡◌, true, ◌*◌, ◌^◌, ◌≤◌, ◌<◌};
-ghost use Rattle.design.specs.Design.{stage_of};
+ghost use Rattle.records.specs.Design.{stage_of};
 ghost use Rattle.design.specs.Reading.{means};
 ghost use Rattle.design.specs.Inside.Held.{design_of};
-ghost use Rattle.threshold.specs.Stages.{output};
-ghost use Rattle.threshold.specs.Running.{packed, unpacked, share_fits, shares_fit, running_on, running};
+ghost use Rattle.sharing.specs.Stages.{output};
+ghost use Rattle.sharing.specs.Sharing.{packed};
+ghost use Rattle.threshold.specs.Running.{unpacked, share_fits, shares_fit, running_on, running};
 ghost use Rattle.threshold.specs.Inside.Outcomes.{ran_of};
 
 use super::FiveShares;

@@ -2,7 +2,7 @@
 use Rattle.std.specs.Prelude.{ℕ, ◌/◌, ◌%◌, ◌^◌, ◌<◌, ◌≤◌, ◌≡◌, List, Bool, false, length, get_or, set}
 use Rattle.std.specs.Int.Bits.{bit_or}
 use Rattle.finite.specs.Sets.{has}
-use Rattle.design.specs.Design.{Design}
+use Rattle.records.specs.Design.{Design}
 use Rattle.checker.specs.Verdict.{workspace_for, zeroed}
 
 -- y is marked

@@ -3,8 +3,8 @@ use Rattle.std.specs.Prelude.{ℕ, ◌+◌, ◌*◌, ◌^◌, ◌<◌, Bool, ◌
 use Rattle.finite.specs.Tests.{pick, any, first}
 use Rattle.finite.specs.Faults.{first_fault}
 use Rattle.anf.specs.Terms.{names}
-use Rattle.design.specs.Design.{Design, stage_of}
-use Rattle.threshold.specs.Stages.{depends_on_all}
+use Rattle.records.specs.Design.{Design, stage_of}
+use Rattle.sharing.specs.Stages.{depends_on_all}
 use Rattle.checker.specs.Verdict.{answer, stage_faults, stages_faults}
 use Rattle.checker.specs.Accepted.{TablePermutes}
 use Rattle.checker.specs.Trials.{sums_wrong, output_met, correctness_at, uniformity_at, trials_of, counted}

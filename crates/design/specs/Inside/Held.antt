@@ -1,5 +1,5 @@
 -- The design that a file which reads means.
-use Rattle.design.specs.Design.{Design}
+use Rattle.records.specs.Design.{Design}
 use Rattle.design.specs.Heads.{numbers, design_by}
 use Rattle.design.specs.declared.files.DesignFile.{DesignFile}
 

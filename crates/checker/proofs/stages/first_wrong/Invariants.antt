@@ -1,7 +1,7 @@
 -- `first_wrong` meets its contract: none of the sharings passed is wrong.
 use Rattle.std.proofs.Common.{◌≡◌, false, length}
 use Rattle.finite.specs.Tests.{any}
-use Rattle.design.specs.Design.{stage_of}
+use Rattle.records.specs.Design.{stage_of}
 use Rattle.design.specs.Inside.Held.{design_of}
 use Rattle.checker.specs.Trials.{sums_wrong}
 use Rattle.checker.proofs.stages.first_wrong.Given as goal

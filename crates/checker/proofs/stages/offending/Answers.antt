@@ -1,6 +1,6 @@
 use Rattle.std.proofs.Common.{◌≡◌, refl, rules}
 use Rattle.records.specs.Inside.Terms.{terms_of, left}
-use Rattle.threshold.proofs.Sharing.{place_lt}
+use Rattle.sharing.proofs.Sharing.{place_lt}
 use Rattle.checker.proofs.EveryShare.{no_component_yet, lists_start, terms_start, terms_more, lists_more, no_component_more, offending_found, offending_none}
 use Rattle.checker.proofs.EveryShare.{place_fits_64, place_fits}
 use Rattle.checker.proofs.stages.offending.Goals as goal

@@ -2,7 +2,7 @@
 use Rattle.std.specs.Prelude.{None}
 use Rattle.std.proofs.Common.{◌≡◌}
 use Rattle.records.specs.Inside.Terms.{left}
-use Rattle.design.specs.Design.{stage_of}
+use Rattle.records.specs.Design.{stage_of}
 use Rattle.design.specs.Inside.Held.{design_of}
 use Rattle.checker.proofs.EveryShare.{OfLists, OfTerms, NoComponent}
 use Rattle.checker.proofs.stages.offending.Given as goal

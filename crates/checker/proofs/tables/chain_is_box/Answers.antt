@@ -4,7 +4,7 @@ use Rattle.std.proofs.lemmas.Iterator.{YieldsList-from_range}
 use Rattle.std.proofs.lemmas.Iterator.Search.{all_from_yields_List}
 use Rattle.anf.specs.Tables.{entry}
 use Rattle.design.specs.Inside.Held.{design_of}
-use Rattle.threshold.specs.Chain.{chained}
+use Rattle.sharing.specs.Chain.{chained}
 use Rattle.finite.proofs.Lists.{all_range}
 use Rattle.checker.proofs.Chaining.{every_entry}
 use Rattle.checker.proofs.tables.chain_is_box.Goals as goal

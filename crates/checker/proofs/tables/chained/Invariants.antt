@@ -2,7 +2,7 @@
 use Rattle.std.proofs.Common.{◌≡◌}
 use lib.ListN.{take}
 use Rattle.design.specs.Inside.Held.{design_of}
-use Rattle.threshold.specs.Chain.{chained}
+use Rattle.sharing.specs.Chain.{chained}
 use Rattle.checker.proofs.tables.chained.Given as goal
 
 abbrev pub invariant-loop-t : goal.invariant-loop-t

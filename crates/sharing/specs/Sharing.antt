@@ -1,6 +1,7 @@
 -- Sharings (the paper's "Terms of threshold implementation"). A sharing of width w in s shares is a number below 2^(w × s); share 0 is its lowest w
 -- bits, share 1 the next. In answers shares and components are counted from 1.
-use Rattle.std.specs.Prelude.{ℕ, ◌+◌, ◌*◌, ◌/◌, ◌%◌, ◌^◌}
+use Rattle.std.specs.Prelude.{ℕ, ◌+◌, ◌*◌, ◌/◌, ◌%◌, ◌^◌, List, get_or}
+use Rattle.finite.specs.Tests.{total}
 use Rattle.finite.specs.Sums.{xor_below}
 
 -- share j
@@ -22,3 +23,7 @@ put_share w j v q = (q / 2 ^ (w * j) * 2 ^ w + v) * 2 ^ (w * j) + q % 2 ^ (w * j
 -- the sharing with share j changed to v, and no other
 abbrev pub with_share : ℕ → ℕ → ℕ → ℕ → ℕ
 with_share w j v σ = put_share w j v (setting w j σ)
+
+-- the sharing whose s shares are the first elements of l
+unfoldable pub packed : ℕ → ℕ → List ℕ → ℕ
+packed w s l = total s (λ j. get_or l j 0 * 2 ^ (w * j))

@@ -3,9 +3,9 @@
 use Rattle.std.specs.Prelude.{ℕ, zero, suc, ◌*◌, ◌^◌, Bool, ◌&&◌, List, [], ◌∷◌, eqb, get_or}
 use Rattle.finite.specs.Tests.{all, count, implies}
 use Rattle.anf.specs.Tables.{entry}
-use Rattle.design.specs.Design.{Stage, no_stage}
-use Rattle.threshold.specs.Sharing.{share, sum, setting}
-use Rattle.threshold.specs.Stages.{output, depends_on}
+use Rattle.records.specs.Design.{Stage, no_stage}
+use Rattle.sharing.specs.Sharing.{share, sum, setting}
+use Rattle.sharing.specs.Stages.{output, depends_on}
 
 -- what the tables of the stages make of x: that of the first stage is applied first
 unfoldable pub chained : List Stage → ℕ → ℕ

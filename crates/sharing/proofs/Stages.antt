@@ -11,14 +11,15 @@ use Rattle.finite.specs.Maps.{Injective, repeats}
 use Rattle.finite.proofs.Testing.{not_true_false}
 use Rattle.finite.proofs.Maps.{repeats_clash, repeats→injective}
 use Rattle.anf.specs.Tables.{entry, Permutation}
-use Rattle.design.specs.Design.{Stage, no_stage, StageFits, TableFits}
-use Rattle.threshold.specs.Sharing.{share, sum}
-use Rattle.threshold.specs.Stages.{output, component, Correct, Uniform, CountedUniform, uniform}
-use Rattle.threshold.specs.Chain.{handed}
-use Rattle.threshold.proofs.Sharing.{sum_lt, sum_shares}
-use Rattle.threshold.proofs.Output.{output_lt}
-use Rattle.threshold.proofs.Carried.{Carries, even→injective, injective→even, even→counted, counted→even}
-use Rattle.threshold.proofs.Tests.{even→uniform, uniform→even, uniform↔}
+use Rattle.records.specs.Design.{Stage, no_stage}
+use Rattle.anf.specs.Tables.{TableFits}
+use Rattle.sharing.specs.Sharing.{share, sum}
+use Rattle.sharing.specs.Stages.{output, component, Correct, Uniform, CountedUniform, uniform}
+use Rattle.sharing.specs.Chain.{handed}
+use Rattle.sharing.proofs.Sharing.{sum_lt, sum_shares}
+use Rattle.sharing.proofs.Output.{output_lt}
+use Rattle.sharing.proofs.Carried.{Carries, even→injective, injective→even, even→counted, counted→even}
+use Rattle.sharing.proofs.Tests.{even→uniform, uniform→even, uniform↔}
 
 -- ---- any component functions: `out` gives the output sharing
 
@@ -63,21 +64,21 @@ handed_lt w s (suc i) [] size σ l = l
 handed_lt w s (suc i) (g ∷ gs) size σ l =
     handed_lt w s i gs (λ t h. size (suc t) (suc-le-suc h)) (output g.lists σ) (stage_output_lt w s g (size 0 (omega arith)) σ)
 
-module _ (w s : ℕ) (g : Stage) (fits : StageFits w s g) (perm : Permutation w g.table) (right : Correct w s (component w g.lists) g.table) where
+module _ (w s : ℕ) (g : Stage) (table : TableFits w g.table) (count : length g.lists ≡ w * s) (perm : Permutation w g.table) (right : Correct w s (component w g.lists) g.table) where
   stage_into : (σ : ℕ) → σ < 2 ^ (w * s) → output g.lists σ < 2 ^ (w * s)
-  stage_into σ l = stage_output_lt w s g fits.count σ
+  stage_into σ l = stage_output_lt w s g count σ
 
   pub stage_carries : Carries (2 ^ (w * s)) (2 ^ w) (sum w s) (output g.lists) (entry g.table)
-  stage_carries = carries w s (output g.lists) g.table stage_into fits.table perm right
+  stage_carries = carries w s (output g.lists) g.table stage_into table perm right
 
   pub stage_uniform→injective : Uniform w s (output g.lists) g.table → Injective (2 ^ (w * s)) (output g.lists)
-  stage_uniform→injective = uniform→injective w s (output g.lists) g.table stage_into fits.table perm right
+  stage_uniform→injective = uniform→injective w s (output g.lists) g.table stage_into table perm right
 
   pub stage_injective→uniform : Injective (2 ^ (w * s)) (output g.lists) → Uniform w s (output g.lists) g.table
-  stage_injective→uniform = injective→uniform w s (output g.lists) g.table stage_into fits.table perm right
+  stage_injective→uniform = injective→uniform w s (output g.lists) g.table stage_into table perm right
 
   pub stage_uniform↔counted : Uniform w s (output g.lists) g.table ↔ CountedUniform w s (output g.lists) g.table
-  stage_uniform↔counted = uniform↔counted w s (output g.lists) g.table stage_into fits.table perm right
+  stage_uniform↔counted = uniform↔counted w s (output g.lists) g.table stage_into table perm right
 
   -- as tests
   pub stage_uniform_repeats : uniform w s g ≡ not (repeats (2 ^ (w * s)) (output g.lists))

@@ -18,20 +18,21 @@ use Rattle.finite.specs.Tests.{count, implies}
 use Rattle.finite.specs.Maps.{Injective}
 use Rattle.finite.proofs.Testing.{all_congr}
 use Rattle.finite.proofs.Counting.{count_congr, by_part_once}
-use Rattle.anf.specs.Tables.{entry, Permutation}
-use Rattle.design.specs.Design.{Stage, StageFits, no_stage}
-use Rattle.threshold.specs.Sharing.{share, sum, setting, put_share, with_share}
-use Rattle.threshold.specs.Stages.{output, component, Correct, IgnoresSome, Uniform, depends_on}
-use Rattle.threshold.specs.Chain.{chained, handed, times_passed, meetings, reads_alike, read_meetings}
-use Rattle.threshold.proofs.Sharing.{sum_lt, setting_lt, share_with, one_sharing}
-use Rattle.threshold.proofs.Carried.{Carries, count_carried, carries_none, carries_then}
-use Rattle.threshold.proofs.Tests.{ignores↔}
-use Rattle.threshold.proofs.Stages.{handed_lt, stage_carries, stage_uniform→injective}
+use Rattle.anf.specs.Tables.{entry, TableFits, Permutation}
+use Rattle.records.specs.Design.{Stage, no_stage}
+use Rattle.sharing.specs.Sharing.{share, sum, setting, put_share, with_share}
+use Rattle.sharing.specs.Stages.{output, component, Correct, IgnoresSome, Uniform, depends_on}
+use Rattle.sharing.specs.Chain.{chained, handed, times_passed, meetings, reads_alike, read_meetings}
+use Rattle.sharing.proofs.Sharing.{sum_lt, setting_lt, share_with, one_sharing}
+use Rattle.sharing.proofs.Carried.{Carries, count_carried, carries_none, carries_then}
+use Rattle.sharing.proofs.Tests.{ignores↔}
+use Rattle.sharing.proofs.Stages.{handed_lt, stage_carries, stage_uniform→injective}
 use Rattle.finite.proofs.Maps.{injective_then}
 
 -- a stage that carries sharings one to one
 pub record Bijective (w s : ℕ) (g : Stage) : Type 0 where
-  pub fits : StageFits w s g
+  pub table : TableFits w g.table
+  pub count : length g.lists ≡ w * s
   pub permutation : Permutation w g.table
   pub correct : Correct w s (component w g.lists) g.table
   pub uniform : Uniform w s (output g.lists) g.table
@@ -48,11 +49,11 @@ module _ (w s : ℕ) where
   handed_carries (suc i) [] v = (carries_none (2 ^ (w * s)) (2 ^ w) (sum w s), λ a b la lb e. e)
   handed_carries (suc i) (g ∷ gs) v =
       let d = v 0 (omega arith) in
-      let c = stage_carries w s g d.fits d.permutation d.correct in
+      let c = stage_carries w s g d.table d.count d.permutation d.correct in
       let r = handed_carries i gs (λ t l. v (suc t) (suc-le-suc l)) in (
         carries_then (2 ^ (w * s)) (2 ^ w) (sum w s) (output g.lists) (entry g.table) (handed gs i) (chained (take i gs)) c r.0,
         injective_then (2 ^ (w * s)) (output g.lists) (handed gs i) c.into
-            (stage_uniform→injective w s g d.fits d.permutation d.correct d.uniform) r.1,
+            (stage_uniform→injective w s g d.table d.count d.permutation d.correct d.uniform) r.1,
       )
 
   -- the output shares of the chain sum to what its tables make of the secret
@@ -89,7 +90,7 @@ passes w zero gs v x i e lx le p = absurd (not-suc-le-zero le)
 passes w (suc s) gs v x i e lx le p =
     by_part_once (2 ^ (w * suc s)) (2 ^ (w * (suc s - 1))) (λ σ. eqb (sum w (suc s) σ) x) (λ σ. setting w e (handed gs i σ)) p
     (λ σ l. subst (λ (k : ℕ). setting w e (handed gs i σ) < 2 ^ (w * k)) (sym (sub-one (suc s)))
-    (setting_lt w s e (handed gs i σ) (le_of_suc-le-suc le) (handed_lt w (suc s) i gs (λ t h. (v t h).fits.count) σ l)))
+    (setting_lt w s e (handed gs i σ) (le_of_suc-le-suc le) (handed_lt w (suc s) i gs (λ t h. (v t h).count) σ l)))
     (λ q lq. met_once w (suc s) gs v x i e q lx le lq)
 
 module _ (w s : ℕ) (gs : List Stage) (v : AllBijective w s gs) (x y i : ℕ) (lx : x < 2 ^ w) (ly : y < 2 ^ w) where
@@ -105,7 +106,7 @@ module _ (w s : ℕ) (gs : List Stage) (v : AllBijective w s gs) (x y i : ℕ) (
       of : (z : ℕ) → times_passed w s gs z i p ≡ times_passed w s gs z i (λ τ. p (with_share w e 0 τ))
       of z =
           count_congr (2 ^ (w * s)) (λ σ. eqb (sum w s σ) z && p (handed gs i σ)) (λ σ. eqb (sum w s σ) z && p (with_share w e 0 (handed gs i σ)))
-          (λ σ l. ap (λ (b : Bool). eqb (sum w s σ) z && b) (sym (blind (handed gs i σ) (handed_lt w s i gs (λ t h. (v t h).fits.count) σ l) 0 (pow_pos w))))
+          (λ σ l. ap (λ (b : Bool). eqb (sum w s σ) z && b) (sym (blind (handed gs i σ) (handed_lt w s i gs (λ t h. (v t h).count) σ l) 0 (pow_pos w))))
 
   -- Such tests are whether a function that ignores a share gives the value z,
   pub value_independent : (f : ℕ → ℕ) (z : ℕ) → IgnoresSome w s f → times_passed w s gs x i (λ τ. eqb (f τ) z) ≡ times_passed w s gs y i (λ τ. eqb (f τ) z)

@@ -12,7 +12,7 @@ use Rattle.finite.specs.Tests.{count}
 use Rattle.finite.proofs.Testing.{bool_ext, and_intro, and_right}
 use Rattle.finite.specs.Maps.{Injective}
 use Rattle.finite.proofs.Counting.{count_congr, count_mono, count_one, count_some, count_unique, count_renamed, pigeonhole, onto, onto_once}
-use Rattle.threshold.specs.Stages.{ExactlyOne}
+use Rattle.sharing.specs.Stages.{ExactlyOne}
 
 -- ---- exactly one, and the count 1
 

@@ -1,7 +1,7 @@
 -- "The design file", record by record: the bytes of the one file that means a design.
 use Rattle.std.specs.Prelude.{ℕ, List, [], ◌∷◌, ◌++◌, map}
 use Rattle.records.specs.Records.{join, a_record, list_record, end_record}
-use Rattle.design.specs.Design.{Stage, Design}
+use Rattle.records.specs.Design.{Stage, Design}
 
 -- the head: m, s, k
 abbrev pub head_body : Design → List ℕ

@@ -1,5 +1,5 @@
-use Rattle.records.proofs.TermBytes.{value_more, value_all}
-use Rattle.records.proofs.terms.Terms.value.Goals as goal
+use Rattle.threshold.proofs.Evaluating.{value_more, value_all}
+use Rattle.threshold.proofs.engine.value_of.Goals as goal
 
 pub loop-term-preserved : goal.loop-term-preserved
 loop-term-preserved c = search (value_more, c.in-Some.ensures.steps)

@@ -22,7 +22,7 @@ use Rattle.finite.proofs.Counting.{count_one}
 use Rattle.finite.proofs.Xor.{xor_assoc, xor_left_comm}
 use Rattle.finite.proofs.Sums.{xor_below_ext, xor_below_first, xor_below_lt}
 use Rattle.finite.proofs.Elements.{has_congr}
-use Rattle.threshold.specs.Sharing.{share, sum, setting, put_share, with_share}
+use Rattle.sharing.specs.Sharing.{share, sum, setting, put_share, with_share}
 
 -- ---- the places of shares
 

@@ -14,13 +14,13 @@ use Rattle.finite.specs.Tests.{any}
 use Rattle.anf.specs.Terms.{TermList, names, clear}
 use Rattle.finite.proofs.Testing.{bool_ext, any_some, any_none, true_or_false}
 use Rattle.anf.proofs.Terms.{clear_add, independent, names_depends}
-use Rattle.design.specs.Design.{Stage}
-use Rattle.threshold.specs.Sharing.{share, setting, put_share, with_share}
-use Rattle.threshold.specs.Inside.Variables.{variables}
-use Rattle.threshold.specs.Stages.{component, depends_on}
-use Rattle.threshold.proofs.Sharing.{place_lt, share_lt, put_share_setting, setting_with, with_other}
-use Rattle.threshold.proofs.Output.{component_eq, component_bit}
-use Rattle.threshold.proofs.Tests.{depends_some, depends_at}
+use Rattle.records.specs.Design.{Stage}
+use Rattle.sharing.specs.Sharing.{share, setting, put_share, with_share}
+use Rattle.sharing.specs.Inside.Variables.{variables}
+use Rattle.sharing.specs.Stages.{component, depends_on}
+use Rattle.sharing.proofs.Sharing.{place_lt, share_lt, put_share_setting, setting_with, with_other}
+use Rattle.sharing.proofs.Output.{component_eq, component_bit}
+use Rattle.sharing.proofs.Tests.{depends_some, depends_at}
 
 module _ (w j : ℕ) where
   -- of x, the variables of share j hold share j

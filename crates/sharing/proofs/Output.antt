@@ -12,8 +12,8 @@ use lib.ListN.{length, get_or, take, drop, length-take}
 use lib.Seq.{get_or-take, get_or-drop, drop-cons, drop-length}
 use Rattle.anf.specs.Terms.{value_at}
 use Rattle.anf.proofs.Terms.{value_at_lt}
-use Rattle.threshold.specs.Sharing.{share}
-use Rattle.threshold.specs.Stages.{output, component}
+use Rattle.sharing.specs.Sharing.{share}
+use Rattle.sharing.specs.Stages.{output, component}
 
 pub output_lt : (ls : List (List ℕ)) (σ : ℕ) → output ls σ < 2 ^ length ls
 unfolding output

@@ -10,8 +10,8 @@ use lib.Seq.{take-length}
 use Rattle.finite.specs.Maps.{Injective}
 use Rattle.finite.proofs.Counting.{onto}
 use Rattle.anf.specs.Tables.{entry}
-use Rattle.design.specs.Design.{Stage, no_stage}
-use Rattle.threshold.specs.Chain.{chained}
+use Rattle.records.specs.Design.{Stage, no_stage}
+use Rattle.sharing.specs.Chain.{chained}
 
 chained_suc : (gs : List Stage) (t x : ℕ) → t < length gs → chained (take (suc t) gs) x ≡ entry (get_or gs t no_stage).table (chained (take t gs) x)
 unfolding chained

@@ -10,12 +10,12 @@ use borrow.Author.Tests.{eqb-true, eqb-false, eq-eqb, ne_eqb, not-true, not-fals
 use Rattle.finite.specs.Tests.{any}
 use Rattle.finite.proofs.Testing.{all_at, all_intro, all_fails, all_not, any_at, any_some, any_none, none_any, implies_at, implies_intro, and_intro, and_left, and_right}
 use Rattle.anf.specs.Tables.{entry}
-use Rattle.design.specs.Design.{Stage}
-use Rattle.threshold.specs.Sharing.{sum, with_share}
-use Rattle.threshold.specs.Stages.{output, component, Correct, Ignores, IgnoresSome, NonComplete, Uniform}
-use Rattle.threshold.specs.Stages.{correct, depends_on, depends_on_all, non_complete, sharings_to, uniform}
-use Rattle.threshold.proofs.Sharing.{sum_shares}
-use Rattle.threshold.proofs.Carried.{Even, count→exactly, exactly→count}
+use Rattle.records.specs.Design.{Stage}
+use Rattle.sharing.specs.Sharing.{sum, with_share}
+use Rattle.sharing.specs.Stages.{output, component, Correct, Ignores, IgnoresSome, NonComplete, Uniform}
+use Rattle.sharing.specs.Stages.{correct, depends_on, depends_on_all, non_complete, sharings_to, uniform}
+use Rattle.sharing.proofs.Sharing.{sum_shares}
+use Rattle.sharing.proofs.Carried.{Even, count→exactly, exactly→count}
 
 -- ---- uniform, as counts of 1
 

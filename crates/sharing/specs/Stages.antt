@@ -5,8 +5,8 @@ use Rattle.finite.specs.Tests.{all, any, count, implies}
 use Rattle.finite.specs.Sums.{xor_below}
 use Rattle.anf.specs.Terms.{value_at}
 use Rattle.anf.specs.Tables.{entry}
-use Rattle.design.specs.Design.{Stage}
-use Rattle.threshold.specs.Sharing.{share, sum, with_share}
+use Rattle.records.specs.Design.{Stage}
+use Rattle.sharing.specs.Sharing.{share, sum, with_share}
 
 -- the output sharing at σ: bit i is the value of list i
 unfoldable pub output : List (List ℕ) → ℕ → ℕ
