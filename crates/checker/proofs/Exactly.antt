@@ -24,10 +24,9 @@ use Rattle.design.proofs.Theorems.{read_formed}
 use Rattle.design.proofs.Reasons.{refused_for, reason_range}
 use Rattle.sharing.specs.Stages.{correct, depends_on_all, non_complete, uniform}
 use Rattle.sharing.proofs.Tests.{correct↔, ignores_some↔, non_complete↔, not_non_complete, uniform↔}
-use Rattle.checker.specs.Verdict.{answer, workspace_for, chain_is_box, judged, judged_reading, verdict}
+use Rattle.checker.specs.Verdict.{Verdict, answer, workspace_for, chain_is_box, judged, judged_reading, verdict}
 use Rattle.checker.specs.Accepted.{CorrectAt, SoundAt, SoundBefore, Sound, HasRoom, Accepted, ExplainedDesign, Explained}
 use Rattle.checker.specs.Accepted.{fault_8, fault_9, fault_10, fault_12, fault_13, fault_14, accepted, refusal, of_design}
-use Rattle.checker.specs.declared.Verdict.{Verdict}
 use Rattle.checker.proofs.Steps.{stage_then, stages_from, stages_next, stages_end}
 use Rattle.checker.proofs.Chaining.{chain↔}
 

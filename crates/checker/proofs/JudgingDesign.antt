@@ -22,13 +22,11 @@ use Rattle.anf.specs.Tables.{entry}
 use Rattle.design.specs.Reading.{Reading, refused, means, reading, meaning}
 use Rattle.design.proofs.Written.{read_means}
 use Rattle.design.proofs.Reasons.{reason_range}
-use Rattle.checker.specs.Verdict.{answer, workspace_for, chain_is_box, judged, judged_reading, verdict, zeroed, workspace_left, workspace_after}
-use Rattle.checker.specs.Trials.{counted, trials_of, trials, judging}
+use Rattle.checker.specs.Verdict.{Verdict, answer, workspace_for, chain_is_box, judged, judged_reading, verdict, zeroed, workspace_left, workspace_after}
+use Rattle.checker.specs.Trials.{Judged, counted, trials_of, trials, judging}
 use Rattle.checker.specs.Outcome.{refusal}
 use Rattle.checker.specs.Outcome as outcome
 use Rattle.checker.specs.Inside.Parts.{TablesPermute, with_trials, stages_judged}
-use Rattle.checker.specs.declared.Verdict.{Verdict}
-use Rattle.checker.specs.declared.Judged.{Judged}
 use Rattle.checker.specs.declared.Refusal.{Refusal}
 use Rattle.checker.proofs.Passes.{untried}
 use Rattle.checker.proofs.Workspace.{untouched, cleared, late_reasons}

@@ -18,12 +18,10 @@ use Rattle.design.proofs.Limits.{bounds}
 use Rattle.sharing.specs.Stages.{component, Correct, correct, depends_on_all, non_complete, uniform}
 use Rattle.sharing.proofs.Tests.{correct↔, not_non_complete}
 use Rattle.sharing.proofs.Stages.{stage_uniform_repeats}
-use Rattle.checker.specs.Verdict.{answer}
+use Rattle.checker.specs.Verdict.{Verdict, answer}
 use Rattle.checker.specs.Outcome.{refusal, refused_with}
-use Rattle.checker.specs.Trials.{correctness_at, uniformity_at, both_passes, trials_of, counted}
+use Rattle.checker.specs.Trials.{Judged, correctness_at, uniformity_at, both_passes, trials_of, counted}
 use Rattle.checker.specs.Inside.Parts.{TablesPermute, with_trials, stage_judged, stages_judged, found, first_wrong, offending, first_met, FoundBelow, tries_until, stage_tries, stage_judging, fault_of}
-use Rattle.checker.specs.declared.Verdict.{Verdict}
-use Rattle.checker.specs.declared.Judged.{Judged}
 use Rattle.checker.specs.declared.Refusal.{Refusal}
 use Rattle.checker.proofs.Passes.{found_is, below, none_found, tries_found, correctness_stopped, uniformity_stopped, correctness_most, uniformity_most}
 use Rattle.checker.proofs.Passes.{few_sharings, few_trials, both_none, both_more, both_most, tries_most, at_fault}

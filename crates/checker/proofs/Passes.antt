@@ -19,7 +19,7 @@ use Rattle.records.specs.Design.{Stage, Design, stage_of}
 use Rattle.sharing.specs.Stages.{output, correct}
 use Rattle.checker.specs.Trials.{sums_wrong, output_met, correctness_tries, uniformity_tries, correctness_at, uniformity_at, both_passes, trials_of}
 use Rattle.checker.specs.Inside.Parts.{found, FoundBelow, tries_until, stage_judged, stage_tries}
-use Rattle.checker.specs.declared.Verdict.{Verdict}
+use Rattle.checker.specs.Verdict.{Verdict}
 
 -- ---- the first that is found
 

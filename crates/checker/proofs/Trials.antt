@@ -23,12 +23,10 @@ use Rattle.design.proofs.Theorems.{read_formed}
 use Rattle.design.proofs.Reasons.{reason_range}
 use Rattle.sharing.proofs.Tests.{correct↔, uniform↔}
 use Rattle.sharing.proofs.Stages.{stage_uniform_repeats}
-use Rattle.checker.specs.Verdict.{answer, workspace_for, judged_reading, judged, verdict}
-use Rattle.checker.specs.Trials.{correctness_at, uniformity_at, both_passes, trials_of, trials_by_outcome, trials, most_trials, forecast_for, no_forecast, forecast}
+use Rattle.checker.specs.Verdict.{Verdict, answer, workspace_for, judged_reading, judged, verdict}
+use Rattle.checker.specs.Trials.{Forecast, correctness_at, uniformity_at, both_passes, trials_of, trials_by_outcome, trials, most_trials, forecast_for, no_forecast, forecast}
 use Rattle.checker.specs.Accepted.{CorrectAt, SoundAt, SoundBefore, Sound, ExplainedDesign}
 use Rattle.checker.specs.Accepted.{fault_8, fault_9, fault_10, fault_12, fault_13, fault_14, accepted}
-use Rattle.checker.specs.declared.Verdict.{Verdict}
-use Rattle.checker.specs.declared.Forecast.{Forecast}
 use Rattle.checker.proofs.Passes.{untried, twice_more, both_none, both_more, correctness_all, uniformity_all, correctness_most, uniformity_most}
 use Rattle.checker.proofs.Chaining.{chain_permutes}
 use Rattle.checker.proofs.Exactly.{judged_explained, verdict_reads, accepted_exactly, reason_zero}

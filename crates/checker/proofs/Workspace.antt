@@ -14,9 +14,8 @@ use Rattle.finite.specs.Faults.{first_fault}
 use Rattle.finite.proofs.Testing.{and_intro, and_false_right, pick_true, pick_false}
 use Rattle.finite.proofs.Faults.{fault_none, fault_append, fault_either}
 use Rattle.records.specs.Design.{Stage, Design}
-use Rattle.checker.specs.Verdict.{answer, workspace_for, stage_faults, stages_faults, zeroed, workspace_left}
+use Rattle.checker.specs.Verdict.{Verdict, answer, workspace_for, stage_faults, stages_faults, zeroed, workspace_left}
 use Rattle.checker.specs.Inside.Parts.{stages_judged}
-use Rattle.checker.specs.declared.Verdict.{Verdict}
 
 -- ---- what a verdict leaves, by its reason
 

@@ -7,8 +7,7 @@ use Rattle.design.specs.Reading.{refused, means, reading}
 use Rattle.design.specs.Refused.{RefusedFor}
 use Rattle.sharing.specs.Stages.{component, output, Correct, IgnoresSome, NonComplete, Uniform}
 use Rattle.sharing.specs.Chain.{chained}
-use Rattle.checker.specs.Verdict.{answer, workspace_for}
-use Rattle.checker.specs.declared.Verdict.{Verdict}
+use Rattle.checker.specs.Verdict.{Verdict, answer, workspace_for}
 
 -- the chain of tables is S
 abbrev pub ChainIsBox : Design → Type 0

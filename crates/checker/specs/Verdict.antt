@@ -8,9 +8,13 @@ use Rattle.records.specs.Design.{Stage, Design}
 use Rattle.design.specs.Reading.{Reading, refused, means, meaning, reading}
 use Rattle.sharing.specs.Stages.{correct, depends_on_all, non_complete, uniform}
 use Rattle.sharing.specs.Chain.{chained}
-use Rattle.checker.specs.declared.Verdict.{Verdict}
 
 -- the three numbers
+pub record Verdict : Type 0 where
+  pub reason : ℕ
+  pub place : ℕ
+  pub component : ℕ
+
 abbrev pub answer : ℕ → ℕ → ℕ → Verdict
 answer reason place component = record { reason = reason; place = place; component = component }
 

@@ -20,7 +20,6 @@ use forecasts::workspace_for;
 use marks::clear;
 use reasons::Reason;
 use stages::{first_met, first_wrong, offending, tries};
-use std::fmt;
 use tables::chain_is_box;
 
 /// Why a file is refused, and the place and the component that the reason names: 0 where it names none, as published.
@@ -80,99 +79,11 @@ struct StageJudgement {
     trials: usize,
 }
 
-// Reason, place and component, as the paper numbers them, with reason 0 for what is accepted: for C, which has no Result.
-#[repr(C)]
-#[derive(Clone, Copy)]
-pub struct Verdict {
-    pub reason: usize,
-    pub place: usize,
-    pub component: usize,
-}
-
-// A verdict, and how many trials it took: for C, which has no Result.
-#[repr(C)]
-#[derive(Clone, Copy)]
-pub struct Judged {
-    pub verdict: Verdict,
-    pub trials: usize,
-}
-
 /// What a verdict can take: bytes of workspace, and the most trials.
 #[derive(Clone, Copy, Debug, PartialEq, Eq)]
 pub struct Needs {
     pub workspace: usize,
     pub trials: usize,
-}
-
-// The needs, both 0 where the head record is refused, and the reason: for C, which has no Result.
-#[repr(C)]
-#[derive(Clone, Copy)]
-pub struct Forecast {
-    pub reason: usize,
-    pub workspace: usize,
-    pub trials: usize,
-}
-
-impl From<Result<usize, Refusal>> for Verdict {
-    ghost use Rattle.checker.specs.Outcome.{verdict_of};
-
-    ghost from_gives = { λ outcome v. v ≡ verdict_of outcome };
-
-    fn from(outcome: Result<usize, Refusal>) -> Verdict {
-        match outcome {
-            Ok(place) => Verdict {
-                reason: 0,
-                place,
-                component: 0,
-            },
-            Err(refusal) => Verdict {
-                reason: refusal.reason.number(),
-                place: refusal.place,
-                component: refusal.component,
-            },
-        }
-    }
-}
-
-/// Reason, place and component in numbers.
-impl fmt::Display for Verdict {
-    fn fmt<W: fmt::Write>(&self, f: &mut fmt::Formatter<W>) -> fmt::Result {
-        write!(f, "{} {} {}", self.reason, self.place, self.component)
-    }
-}
-
-impl From<Judgement> for Judged {
-    ghost use Rattle.checker.specs.Outcome.{judged_of};
-
-    ghost from_gives = { λ judgement v. v ≡ judged_of judgement };
-
-    fn from(judgement: Judgement) -> Judged {
-        Judged {
-            verdict: Verdict::from(judgement.outcome),
-            trials: judgement.trials,
-        }
-    }
-}
-
-impl From<Result<Needs, Reason>> for Forecast {
-    ghost use Rattle.checker.specs.Outcome.{forecast_of};
-
-    ghost from_gives = { λ needs v. v ≡ forecast_of needs };
-
-    fn from(needs: Result<Needs, Reason>) -> Forecast {
-        match needs {
-            Ok(needs) => Forecast {
-                reason: 0,
-                workspace: needs.workspace,
-                trials: needs.trials,
-            },
-            Err(reason) => Forecast {
-                reason: reason.number(),
-                workspace: 0,
-                trials: 0,
-            },
-        }
-    }
 }
 
 // Stage `t`, counted from 0: 12, 13 or 14. The marks are zero before and after. From here up the workspace is lent beside the design: a struct of both is no

@@ -71,7 +71,7 @@ use Rattle.joiner.proofs.Seam as seam
 use Rattle.joiner.proofs.Answers as joined_answers
 use Rattle.joiner.proofs.Room as joined_lengths
 use Rattle.joiner.proofs.Bench as joiner_bench
-use Rattle.jestrunas.proofs.Produced.{produced_verdict}
+use Rattle.jestrunas.proofs.ProducedVerdict.{produced_verdict}
 
 -- ---- Normal form, for any number of variables
 

@@ -24,8 +24,7 @@ use Rattle.anf.specs.Tables.{entry}
 use Rattle.records.specs.Records.{record_head, a_record, end_record}
 use Rattle.std.specs.Borrow.{MutBor}
 use Rattle.reasons.specs.declared.Reason.TheVariants.{OutputTooShort}
-use Rattle.records.specs.Writing.{produced_of}
-use Rattle.records.specs.declared.Produced.{Produced}
+use Rattle.records.specs.Writing.{Produced, produced_of}
 use Rattle.records.specs.Inside.Overwriting.{overwrite}
 use Rattle.records.specs.Inside.Writes.{Starts, Writes}
 use Rattle.records.specs.declared.writer.Writer.{Writer}

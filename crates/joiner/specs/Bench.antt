@@ -1,6 +1,6 @@
 -- "Chaining two boxes": what joining answers and leaves, as rows.
 use Rattle.std.specs.Prelude.{ℕ, List, [], ◌∷◌, ◌++◌, replicate, take}
-use Rattle.records.specs.declared.Produced.{Produced}
+use Rattle.records.specs.Writing.{Produced}
 use Rattle.records.specs.Design.{Stage}
 use Rattle.records.specs.Encode.{encode}
 use Rattle.design.specs.Bench.{file_d}

@@ -3,14 +3,12 @@ use Rattle.std.specs.Prelude.{ℕ, ◌+◌, ◌≤◌, ◌<◌, ◌≡◌, Bool,
 use Rattle.finite.specs.Tests.{pick}
 use Rattle.finite.specs.Faults.{first_fault}
 use Rattle.anf.specs.Tables.{entry}
-use Rattle.records.specs.Writing.{writing_answer, writing_after}
-use Rattle.records.specs.declared.Produced.{Produced}
+use Rattle.records.specs.Writing.{Produced, writing_answer, writing_after}
 use Rattle.design.specs.Limits.{greatest_stages}
 use Rattle.records.specs.Design.{Design}
 use Rattle.records.specs.Encode.{encode}
 use Rattle.design.specs.Reading.{refused, means, reading, reason_of, meaning}
-use Rattle.threshold.specs.Running.{running}
-use Rattle.threshold.specs.declared.Ran.{Ran}
+use Rattle.threshold.specs.Running.{Ran, running}
 
 -- S of the second after S of the first: each entry of the first is sent through the second. The stages of the first, then those of the second.
 abbrev pub joined_design : Design → Design → Design

@@ -24,7 +24,7 @@ use Rattle.anf.specs.Tables.{TableFits}
 use Rattle.std.specs.Prelude.{Ok, Err}
 use Rattle.reasons.specs.Numbers.{number}
 use Rattle.reasons.specs.declared.Reason.{Reason}
-use Rattle.records.specs.Writing.{produced_of}
+use Rattle.records.specs.Writing.{Produced, produced_of}
 use Rattle.records.specs.Inside.Overwriting.{overwrite}
 use Rattle.design.proofs.Limits.{bounds, head_number}
 use Rattle.records.proofs.Producing as rules
@@ -34,7 +34,6 @@ use Rattle.direct.proofs.Loading.{loaded}
 use Rattle.producer.specs.Producing.{produced, produced_reason, producing, output_after, produced_length}
 use Rattle.producer.specs.Inside.Filing.{one_stage_file}
 use Rattle.producer.proofs.Terms.{length_congr, produced_size}
-use Rattle.records.specs.declared.Produced.{Produced}
 
 -- ---- what is known after the tests
 

@@ -23,12 +23,11 @@ use Rattle.reasons.specs.Numbers.{number}
 use Rattle.reasons.specs.declared.Reason.{Reason}
 use Rattle.reasons.proofs.Numbers.{number_some}
 use Rattle.reasons.specs.declared.Reason.TheVariants.{BoxRepeats, BadPlacement, DegreeTooHigh, OutputTooShort}
-use Rattle.records.specs.Writing.{produced_of}
+use Rattle.records.specs.Writing.{Produced, produced_of}
 use Rattle.records.specs.Inside.Overwriting.{overwrite}
 use Rattle.records.specs.Inside.Writes.{Starts, Writes}
 use Rattle.records.specs.declared.writer.Writer.{Writer}
 use Rattle.records.proofs.Writes.{whole_written}
-use Rattle.records.specs.declared.Produced.{Produced}
 use Rattle.direct.specs.Direct.{loads}
 use Rattle.direct.specs.Inside.Placing.{Ruled, place_by}
 use Rattle.direct.specs.declared.Rule.{Rule}

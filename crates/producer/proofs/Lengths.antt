@@ -7,8 +7,7 @@ use lib.ListN.{length, take}
 use lib.Seq.{length-take-le}
 use Rattle.std.specs.Prelude.{Result, Ok}
 use Rattle.reasons.specs.declared.Reason.{Reason}
-use Rattle.records.specs.declared.Produced.{Produced}
-use Rattle.records.specs.Writing.{produced_of}
+use Rattle.records.specs.Writing.{Produced, produced_of}
 use Rattle.records.proofs.Producing.{length_within}
 use Rattle.producer.specs.Producing.{produced, produced_reason, producing, output_after}
 

@@ -16,9 +16,8 @@ use Rattle.std.specs.Prelude.{Ok, Err}
 use Rattle.reasons.specs.Numbers.{number}
 use Rattle.reasons.specs.declared.Reason.{Reason}
 use Rattle.reasons.proofs.Numbers.{number_some}
-use Rattle.records.specs.Writing.{writing_answer, writing_after, produced_of}
+use Rattle.records.specs.Writing.{Produced, writing_answer, writing_after, produced_of}
 use Rattle.records.specs.Inside.Overwriting.{overwrite}
-use Rattle.records.specs.declared.Produced.{Produced}
 use Rattle.records.proofs.Overwriting.{overwrite_front}
 
 module _ (reason : ℕ) (file : List ℕ) where

@@ -25,8 +25,7 @@ use Rattle.sharing.specs.Stages.{output, component}
 use Rattle.sharing.specs.Chain.{handed}
 use Rattle.threshold.specs.Inside.Outcomes.{finished}
 use Rattle.sharing.specs.Sharing.{packed}
-use Rattle.threshold.specs.Running.{unpacked, share_fits, shares_fit, five_zeros, refused_run, running_on, running}
-use Rattle.threshold.specs.declared.Ran.{Ran}
+use Rattle.threshold.specs.Running.{Ran, unpacked, share_fits, shares_fit, five_zeros, refused_run, running_on, running}
 use Rattle.threshold.proofs.Packing.{share_fits_lem, packed_small, unpacked_filled}
 use Rattle.sharing.proofs.Packing.{packed_none, packed_next, packed_lt}
 use Rattle.threshold.proofs.Running.{Sent, sent_start, sent_fits, sent_next, running_as, running_refused, unfit_run, fit_run}

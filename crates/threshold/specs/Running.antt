@@ -7,7 +7,6 @@ use Rattle.records.specs.Design.{Design}
 use Rattle.design.specs.Reading.{Reading, refused, means, reading}
 use Rattle.sharing.specs.Sharing.{share, packed}
 use Rattle.sharing.specs.Chain.{handed}
-use Rattle.threshold.specs.declared.Ran.{Ran}
 
 -- the five bytes of a sharing: its s shares, then zeros
 unfoldable pub unpacked : ℕ → ℕ → ℕ → List ℕ
@@ -26,6 +25,11 @@ five_sum l = xor_below greatest_shares (λ j. get_or l j 0)
 
 abbrev pub five_zeros : List ℕ
 five_zeros = replicate greatest_shares 0
+
+-- what a run answers: the number of a refusal, or 0, and five shares
+pub record Ran : Type 0 where
+  pub reason : ℕ
+  pub shares : List ℕ
 
 -- a refusal answers its number and five zeros
 abbrev pub refused_run : ℕ → Ran

@@ -5,12 +5,10 @@ use Rattle.finite.specs.Faults.{first_fault}
 use Rattle.anf.specs.Terms.{names}
 use Rattle.records.specs.Design.{Design, stage_of}
 use Rattle.sharing.specs.Stages.{depends_on_all}
-use Rattle.checker.specs.Verdict.{answer, stage_faults, stages_faults}
+use Rattle.checker.specs.Verdict.{Verdict, answer, stage_faults, stages_faults}
 use Rattle.checker.specs.Accepted.{TablePermutes}
-use Rattle.checker.specs.Trials.{sums_wrong, output_met, correctness_at, uniformity_at, trials_of, counted}
+use Rattle.checker.specs.Trials.{Judged, sums_wrong, output_met, correctness_at, uniformity_at, trials_of, counted}
 use Rattle.checker.specs.Outcome.{refused_with}
-use Rattle.checker.specs.declared.Verdict.{Verdict}
-use Rattle.checker.specs.declared.Judged.{Judged}
 use Rattle.checker.specs.declared.Refusal.{Refusal}
 use Rattle.checker.specs.declared.StageJudgement.{StageJudgement}
 

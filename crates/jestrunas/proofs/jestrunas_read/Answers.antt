@@ -3,12 +3,12 @@
 use Rattle.std.proofs.Common.{◌≡◌, List, ℕ, ap}
 use Rattle.design.specs.Reading.{Reading, reason_of, place_of, reading}
 use Rattle.checker.specs.Verdict.{answer}
-use Rattle.jestrunas.specs.Published.{read_answer}
+use Rattle.jestrunas.specs.Published.{c_verdict, read_answer}
 use Rattle.jestrunas.proofs.jestrunas_read.Goals as goal
 
-read_answers : (f : List ℕ) (r : Reading) → r ≡ reading f → answer (reason_of r) (place_of r) 0 ≡ read_answer f
+read_answers : (f : List ℕ) (r : Reading) → r ≡ reading f → c_verdict (answer (reason_of r) (place_of r) 0) ≡ c_verdict (read_answer f)
 unfolding read_answer
-read_answers f r a = ap (λ (x : Reading). answer (reason_of x) (place_of x) 0) a
+read_answers f r a = ap (λ (x : Reading). c_verdict (answer (reason_of x) (place_of x) 0)) a
 
 pub returns-in-Ok : goal.returns-in-Ok
 returns-in-Ok c = read_answers _ _ c.in-Ok.ensures.reading

@@ -9,9 +9,8 @@ use Rattle.anf.specs.NormalForm.{degree}
 use Rattle.anf.specs.Tables.{entry}
 use Rattle.records.specs.Design.{Design}
 use Rattle.design.proofs.Theorems.{read_formed}
-use Rattle.checker.specs.Verdict.{answer, workspace_for, judged, verdict}
+use Rattle.checker.specs.Verdict.{Verdict, answer, workspace_for, judged, verdict}
 use Rattle.checker.specs.Accepted.{ExplainedDesign, fault_8, fault_9, fault_10, fault_12, fault_13, fault_14, accepted}
-use Rattle.checker.specs.declared.Verdict.{Verdict}
 use Rattle.checker.proofs.Exactly.{judged_explained, verdict_reads}
 use Rattle.direct.specs.Direct.{Loads, placed, direct_stage, direct_sharing, Box}
 use Rattle.producer.specs.Producing.{produced}
