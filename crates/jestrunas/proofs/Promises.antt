@@ -63,15 +63,16 @@ use Rattle.producer.proofs.Terms as producer_terms
 use Rattle.producer.proofs.Room as producer_room
 use Rattle.direct.proofs.Bench as direct_bench
 use Rattle.producer.proofs.Bench as producer_bench
-use Rattle.joiner.specs.Joining.{joined_design, joined, joined_reason, joining, joined_after, Joinable, JoiningExplained, running_onward}
+use Rattle.joiner.specs.Joining.{joined_design, joined, joined_reason, joining, joined_after, Joinable, JoiningExplained}
 use Rattle.joiner.specs.Bench as bench_joiner
-use Rattle.joiner.proofs.Formed as joined_form
-use Rattle.joiner.proofs.Accepting as joined_verdict
-use Rattle.joiner.proofs.Seam as seam
-use Rattle.joiner.proofs.Answers as joined_answers
+use Rattle.joiner.proofs.JoinedDesign as joined_form
+use Rattle.joiner.proofs.Reasons as joined_answers
 use Rattle.joiner.proofs.Room as joined_lengths
 use Rattle.joiner.proofs.Bench as joiner_bench
+use Rattle.jestrunas.specs.JoinedRuns.{running_onward}
 use Rattle.jestrunas.proofs.ProducedVerdict.{produced_verdict}
+use Rattle.jestrunas.proofs.JoinedVerdict as joined_verdict
+use Rattle.jestrunas.proofs.JoinedRuns as joined_run
 
 -- ---- Normal form, for any number of variables
 
@@ -298,7 +299,7 @@ joined_accepted = joined_verdict.joined_accepted
 -- Running the joined file is running the second on what the first gives, for all files that can be joined, accepted or not, and for all shares; where the first
 -- refuses the shares, the joined file refuses them too.
 pub joined_runs : (f g : List ℕ) (d e : Design) → Joinable f g d e → (l : List ℕ) → running (joined f g) l ≡ running_onward g (running f l)
-joined_runs = seam.joined_runs
+joined_runs = joined_run.joined_runs
 
 -- 0 is answered exactly when the files can be joined and the joined file fits the output; and every number exactly when it is explained: the refusal that it
 -- names is there, and none before it in the published order is.

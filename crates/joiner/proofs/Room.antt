@@ -15,8 +15,8 @@ use Rattle.design.specs.Reading.{means, reading}
 use Rattle.design.proofs.FileLength.{parts_length}
 use Rattle.design.proofs.Theorems.{read_formed, read_encodes}
 use Rattle.joiner.specs.Joining.{joined_design, joined, joined_reason, Joinable}
-use Rattle.joiner.proofs.Formed.{joined_formed, joined_is}
-use Rattle.joiner.proofs.Answers.{joined_seventeen}
+use Rattle.joiner.proofs.JoinedDesign.{joined_formed, joined_is}
+use Rattle.joiner.proofs.Reasons.{joined_seventeen}
 
 abbrev stages_length : List Stage → ℕ
 stages_length gs = length (join (map stage_bytes gs))
@@ -38,7 +38,7 @@ module _ (f g : List ℕ) (d e : Design) (j : Joinable f g d e) where
         read_length f d bf j.first,
         read_length g e bg j.second,
         ap (λ (m : ℕ). 2 ^ m) j.width,
-        ap length (joined_is f g d e j) ∙ parts_length (joined_design d e),
+        ap length (joined_is f g d e j.first j.second) ∙ parts_length (joined_design d e),
         (joined_formed f g d e j).box.size,
         stages_length_lem d.stages e.stages,
       )

@@ -69,6 +69,11 @@ pub record Answered (reason : ℕ) (file out : List ℕ) (r : Produced) (after :
   pub answer : r ≡ writing_answer reason file
   pub output : after ≡ writing_after reason file out
 
+-- as a contract has it
+pub answered : {reason : ℕ} {file out : List ℕ} {r : Produced} {after : List ℕ} → Answered reason file out r after
+    → record { value : r ≡ writing_answer reason file; output_after : after ≡ writing_after reason file out }
+answered a = record { value = a.answer; output_after = a.output }
+
 module _ (reason : ℕ) (file out : List ℕ) where
   -- refused for the reason k
   pub refused : (k : Reason) → reason ≡ number k → Answered reason file out (produced_of (Err k)) out

@@ -19,8 +19,9 @@ use Rattle.sharing.proofs.Stages.{handed_lt}
 use Rattle.threshold.proofs.Packing.{share_fits_lem}
 use Rattle.sharing.proofs.Packing.{packed_lt}
 use Rattle.threshold.proofs.Running.{handed_append, running_unfit, running_success, running_sharing}
-use Rattle.joiner.specs.Joining.{joined_design, joined, Joinable, running_onward}
-use Rattle.joiner.proofs.Formed.{joined_reads}
+use Rattle.joiner.specs.Joining.{joined_design, joined, Joinable}
+use Rattle.joiner.proofs.JoinedDesign.{joined_reads}
+use Rattle.jestrunas.specs.JoinedRuns.{running_onward}
 
 -- what the joined chain gives is what the second makes of what the first gives
 handed_joined : (d e : Design) → length d.stages ≡ d.k → (σ : ℕ) → handed (d.stages ++ e.stages) (d.k + e.k) σ ≡ handed e.stages e.k (handed d.stages d.k σ)

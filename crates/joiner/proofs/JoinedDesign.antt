@@ -72,17 +72,17 @@ module _ (d e : Design) (v : WellFormed d) (w : WellFormed e) (em : d.m ≡ e.m)
     stage = either_stage (StageFits d.m d.s) d e v.count v.stage second_stage;
   }
 
+-- the file that is written of two files that read is the one of the joined design
+pub joined_is : (f g : List ℕ) (d e : Design) → reading f ≡ means d → reading g ≡ means e → joined f g ≡ encode (joined_design d e)
+unfolding joined
+joined_is f g d e a b = sym (ap₂ (λ (x y : Design). encode (joined_design x y)) (read_means f d a) (read_means g e b))
+
 module _ (f g : List ℕ) (d e : Design) (j : Joinable f g d e) where
   pub joined_formed : WellFormed (joined_design d e)
   joined_formed = design_formed d e (read_formed f d j.first) (read_formed g e j.second) j.width j.shares j.stages
 
-  -- the file that is written is the one of the joined design
-  pub joined_is : joined f g ≡ encode (joined_design d e)
-  unfolding joined
-  joined_is = sym (ap₂ (λ (x y : Design). encode (joined_design x y)) (read_means f d j.first) (read_means g e j.second))
-
   pub joined_reads : reading (joined f g) ≡ means (joined_design d e)
-  joined_reads = ap reading joined_is ∙ encode_reads (joined_design d e) joined_formed
+  joined_reads = ap reading (joined_is f g d e j.first j.second) ∙ encode_reads (joined_design d e) joined_formed
 
   -- its S sends x through S of the first, then through S of the second
   pub joined_box : (x : ℕ) → x < 2 ^ d.m → entry (joined_design d e).box x ≡ entry e.box (entry d.box x)

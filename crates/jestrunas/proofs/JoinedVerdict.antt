@@ -18,7 +18,7 @@ use Rattle.checker.specs.Assurance.{Assured, Blind}
 use Rattle.checker.proofs.Exactly.{accepted_exactly, reason_sound}
 use Rattle.checker.proofs.Assurance.{file_assured}
 use Rattle.joiner.specs.Joining.{joined_design, joined, Joinable}
-use Rattle.joiner.proofs.Formed.{through_at, either_stage, joined_reads}
+use Rattle.joiner.proofs.JoinedDesign.{through_at, either_stage, joined_reads}
 
 module _ (d e : Design) (v : WellFormed d) (em : d.m ≡ e.m) where
   abbrev S₁ : ℕ → ℕ

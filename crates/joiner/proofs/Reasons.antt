@@ -1,6 +1,6 @@
 -- What joining answers and leaves: every number explained, 0 exactly when the files can be joined and the joined file fits, and what stands in the output.
--- Each test is one case and means its fact; what a file reads as is what it means. Assumes nothing.
-use mathlib.Core.Path.{◌≡◌, ◌∙◌, subst}
+-- Each test is one case and means its fact. Assumes nothing.
+use mathlib.Core.Path.{◌≡◌, refl, sym, ap, ◌∙◌, subst}
 use mathlib.Core.Logic.{◌↔◌, ◌≢◌}
 use mathlib.Core.Bool.{Bool, true, false, not}
 use mathlib.Core.List.{List, [], ◌∷◌}
@@ -11,15 +11,16 @@ use lib.ListN.{length, take, drop}
 use borrow.Author.Tests.{eqb-true, eqb-false, eq-eqb, ne_eqb, ltb-true, ltb-false, lt-ltb, le-ltb, not-true, not-false}
 use Rattle.finite.specs.Faults.{first_fault}
 use Rattle.finite.proofs.Testing.{clash, not_true_false, and_intro, and_left, and_right}
-use Rattle.finite.proofs.Faults.{fault_either, fault_none}
+use Rattle.finite.proofs.Faults.{fault_here, fault_past, fault_either, fault_none}
 use Rattle.records.proofs.Producing.{success_file, success_rest, refusal_after}
 use Rattle.design.specs.Limits.{greatest_stages}
 use Rattle.records.specs.Design.{Design}
-use Rattle.design.specs.Reading.{refused, means, reading, reason_of, meaning}
-use Rattle.design.proofs.Written.{read_means}
-use Rattle.design.proofs.Reasons.{reason_range, reason_none, reason_some}
-use Rattle.joiner.specs.Joining.{joined, same_shares, joined_reason, joined_after, Joinable, JoiningExplained}
+use Rattle.records.specs.Encode.{encode}
+use Rattle.design.specs.Reading.{Reading, refused, means, reading}
+use Rattle.design.proofs.Reasons.{reason_range}
+use Rattle.joiner.specs.Joining.{joined_design, joined, same_shares, designs_reason, reason_by, joined_reason, joined_after, Joinable, JoiningExplained}
 use Rattle.joiner.specs.Joining.{first_refused, second_refused, shares_differ, stages_exceed, output_short, joins}
+use Rattle.joiner.proofs.JoinedDesign.{joined_is}
 
 -- equal widths and share counts, as a test
 module _ (d e : Design) where
@@ -29,6 +30,26 @@ module _ (d e : Design) where
   shares_same : same_shares d e ≡ true → (d.m ≡ e.m) × (d.s ≡ e.s)
   shares_same h = (eqb-true _ _ (and_left (eqb d.m e.m) _ h), eqb-true _ _ (and_right (eqb d.m e.m) _ h))
 
+-- ---- each number of two designs
+
+module _ (d e : Design) (room : ℕ) where
+  pub differ_answered : ¬ ((d.m ≡ e.m) × (d.s ≡ e.s)) → designs_reason d e room ≡ 19
+  unfolding designs_reason
+  differ_answered n = fault_here _ 19 _ 0 (ap not (not_true_false _ (λ h. n (shares_same d e h))))
+
+  module _ (em : d.m ≡ e.m) (es : d.s ≡ e.s) where
+    same : not (same_shares d e) ≡ false
+    same = ap not (same_shares_lem d e em es)
+
+    pub exceed_answered : greatest_stages < d.k + e.k → designs_reason d e room ≡ 20
+    unfolding designs_reason
+    exceed_answered l = fault_past _ 19 _ 0 same ∙ fault_here _ 20 _ 0 (lt-ltb _ _ l)
+
+    -- only the room is left to be tested
+    pub room_answered : d.k + e.k ≤ greatest_stages → designs_reason d e room ≡ first_fault ((ltb room (length (encode (joined_design d e))), 17) ∷ []) 0
+    unfolding designs_reason
+    room_answered h = fault_past _ 19 _ 0 same ∙ fault_past _ 20 _ 0 (le-ltb _ _ h)
+
 -- ---- explained
 
 module _ (f g : List ℕ) (room : ℕ) where
@@ -37,69 +58,56 @@ module _ (f g : List ℕ) (room : ℕ) where
       → JoiningExplained f g room (first_fault ((b, r) ∷ fs) 0)
   either b r fs = fault_either (JoiningExplained f g room) b r fs 0
 
+  designs_explained : (d e : Design) → reading f ≡ means d → reading g ≡ means e → JoiningExplained f g room (designs_reason d e room)
+  unfolding designs_reason
+  designs_explained d e a b =
+      let size : length (joined f g) ≡ length (encode (joined_design d e)) = ap length (joined_is f g d e a b) in
+      either (not (same_shares d e)) _ _
+      (λ h. shares_differ _ _ a b (λ p. clash (same_shares_lem d e p.0 p.1) (not-true _ h)))
+      (λ h. let p = shares_same d e (not-false _ h) in
+      either (ltb greatest_stages (d.k + e.k)) _ _
+      (λ h. stages_exceed _ _ a b p.0 p.1 (ltb-true _ _ h))
+      (λ h. let j : Joinable f g d e = record { first = a; second = b; width = p.0; shares = p.1; stages = ltb-false _ _ h } in
+      either (ltb room (length (encode (joined_design d e)))) _ _
+      (λ h. output_short _ _ j (rw size (ltb-true _ _ h)))
+      (λ h. rw (fault_none {A = ℕ} 0) (joins _ _ j (rw size (ltb-false _ _ h))))))
+
+  files_explained : (x y : Reading) → reading f ≡ x → reading g ≡ y → JoiningExplained f g room (reason_by x y room)
+  files_explained (refused r p) y a b = first_refused r p a
+  files_explained (means d) (refused r p) a b = second_refused d r p a b
+  files_explained (means d) (means e) a b = designs_explained d e a b
+
   reason_explained : JoiningExplained f g room (joined_reason f g room)
   unfolding joined_reason
-  reason_explained =
-      either (not (eqb (reason_of (reading f)) 0)) _ _
-      (λ h. first_refused _ _ (reason_some f (eqb-false _ _ (not-true _ h))))
-      (λ h. let a = reason_none f (eqb-true _ _ (not-false _ h)) in
-      either (not (eqb (reason_of (reading g)) 0)) _ _
-      (λ h. second_refused _ _ _ a (reason_some g (eqb-false _ _ (not-true _ h))))
-      (λ h. let b = reason_none g (eqb-true _ _ (not-false _ h)) in
-      either (not (same_shares (meaning f) (meaning g))) _ _
-      (λ h. shares_differ _ _ a b (λ p. clash (same_shares_lem (meaning f) (meaning g) p.0 p.1) (not-true _ h)))
-      (λ h. let p = shares_same (meaning f) (meaning g) (not-false _ h) in
-      either (ltb greatest_stages ((meaning f).k + (meaning g).k)) _ _
-      (λ h. stages_exceed _ _ a b p.0 p.1 (ltb-true _ _ h))
-      (λ h. let j : Joinable f g (meaning f) (meaning g) = record { first = a; second = b; width = p.0; shares = p.1; stages = ltb-false _ _ h } in
-      either (ltb room (length (joined f g))) _ _
-      (λ h. output_short _ _ j (ltb-true _ _ h))
-      (λ h. rw (fault_none {A = ℕ} 0) (joins _ _ j (ltb-false _ _ h)))))))
+  reason_explained = files_explained (reading f) (reading g) refl refl
 
 -- ---- the other way: what is explained is answered
 
--- the designs are what the files mean
-module _ (f g : List ℕ) (d e : Design) (a : reading f ≡ means d) (b : reading g ≡ means e) where
-  of_meanings : (P : Design → Design → Type 0) → P d e → P (meaning f) (meaning g)
-  of_meanings P p = subst (λ x. P x (meaning g)) (read_means f d a) (subst (P d) (read_means g e b) p)
+module _ (f g : List ℕ) (room : ℕ) where
+  pub first_answered : (r p : ℕ) → reading f ≡ refused r p → joined_reason f g room ≡ r
+  unfolding joined_reason
+  first_answered r p a = rw a refl
 
-  differ_answered : (room : ℕ) → ¬ ((d.m ≡ e.m) × (d.s ≡ e.s)) → joined_reason f g room ≡ 19
-  unfolding joined_reason first_fault
-  differ_answered room n =
-      let s = of_meanings (λ x y. same_shares x y ≡ false) (not_true_false _ (λ h. n (shares_same d e h))) in
-      simp (a, b, s)
+  pub second_answered : (d : Design) (r p : ℕ) → reading f ≡ means d → reading g ≡ refused r p → joined_reason f g room ≡ r
+  unfolding joined_reason
+  second_answered d r p a b = rw (a, b) refl
 
-  exceed_answered : (room : ℕ) → d.m ≡ e.m → d.s ≡ e.s → greatest_stages < d.k + e.k → joined_reason f g room ≡ 20
-  unfolding joined_reason first_fault
-  exceed_answered room em es l =
-      let s = of_meanings (λ x y. same_shares x y ≡ true) (same_shares_lem d e em es) in
-      let t = of_meanings (λ x y. ltb greatest_stages (x.k + y.k) ≡ true) (lt-ltb _ _ l) in
-      simp (a, b, s, t)
+  pub both_answered : (d e : Design) → reading f ≡ means d → reading g ≡ means e → joined_reason f g room ≡ designs_reason d e room
+  unfolding joined_reason
+  both_answered d e a b = rw (a, b) refl
 
-module _ (f g : List ℕ) (d e : Design) (j : Joinable f g d e) (room : ℕ) where
-  pub joinable_answered : joined_reason f g room ≡ first_fault ((ltb room (length (joined f g)), 17) ∷ []) 0
-  unfolding joined_reason first_fault
-  joinable_answered =
-      let s = of_meanings f g d e j.first j.second (λ x y. same_shares x y ≡ true) (same_shares_lem d e j.width j.shares) in
-      let t = of_meanings f g d e j.first j.second (λ x y. ltb greatest_stages (x.k + y.k) ≡ false) (le-ltb _ _ j.stages) in
-      simp (j.first, j.second, s, t)
+  joinable_answered : (d e : Design) → Joinable f g d e → joined_reason f g room ≡ first_fault ((ltb room (length (joined f g)), 17) ∷ []) 0
+  joinable_answered d e j =
+      both_answered d e j.first j.second ∙ room_answered d e room j.width j.shares j.stages
+      ∙ ap (λ (x : List ℕ). first_fault ((ltb room (length x), 17) ∷ []) 0) (sym (joined_is f g d e j.first j.second))
 
-refused_answered : (f g : List ℕ) (room r p : ℕ) → reading f ≡ refused r p → joined_reason f g room ≡ r
-unfolding joined_reason first_fault
-refused_answered f g room r p a = simp (a, ne_eqb r 0 (λ z. omega (arith, reason_range f r p a)))
-
-second_answered : (f g : List ℕ) (room : ℕ) (d : Design) (r p : ℕ) → reading f ≡ means d → reading g ≡ refused r p → joined_reason f g room ≡ r
-unfolding joined_reason first_fault
-second_answered f g room d r p a b = simp (a, b, ne_eqb r 0 (λ z. omega (arith, reason_range g r p b)))
-
-explained_answered : (f g : List ℕ) (room r : ℕ) → JoiningExplained f g room r → joined_reason f g room ≡ r
-unfolding first_fault
-explained_answered f g room n (first_refused r p a) = refused_answered f g room r p a
-explained_answered f g room n (second_refused d r p a b) = second_answered f g room d r p a b
-explained_answered f g room n (shares_differ d e a b h) = differ_answered f g d e a b room h
-explained_answered f g room n (stages_exceed d e a b em es l) = exceed_answered f g d e a b room em es l
-explained_answered f g room n (output_short d e j l) = joinable_answered f g d e j room ∙ simp (lt-ltb _ _ l)
-explained_answered f g room n (joins d e j l) = joinable_answered f g d e j room ∙ simp (le-ltb _ _ l)
+  explained_answered : (r : ℕ) → JoiningExplained f g room r → joined_reason f g room ≡ r
+  explained_answered n (first_refused r p a) = first_answered r p a
+  explained_answered n (second_refused d r p a b) = second_answered d r p a b
+  explained_answered n (shares_differ d e a b h) = both_answered d e a b ∙ differ_answered d e room h
+  explained_answered n (stages_exceed d e a b em es l) = both_answered d e a b ∙ exceed_answered d e room em es l
+  explained_answered n (output_short d e j l) = joinable_answered d e j ∙ fault_here _ 17 _ 0 (lt-ltb _ _ l)
+  explained_answered n (joins d e j l) = joinable_answered d e j ∙ fault_past _ 17 _ 0 (le-ltb _ _ l) ∙ fault_none 0
 
 -- a number is answered exactly when it is explained
 pub joined_explained : (f g : List ℕ) (room r : ℕ) → (joined_reason f g room ≡ r) ↔ JoiningExplained f g room r
