@@ -14,8 +14,7 @@ use Rattle.std.specs.Prelude.{Err}
 use Rattle.reasons.specs.declared.Reason.{Reason}
 use Rattle.reasons.specs.declared.Reason.TheVariants.{SharesDiffer, TooManyStages}
 use Rattle.reasons.specs.Numbers.{number}
-use Rattle.records.specs.Writing.{writing_answer, writing_after, produced_of}
-use Rattle.records.specs.declared.Produced.{Produced}
+use Rattle.records.specs.Writing.{Produced, writing_answer, writing_after, produced_of}
 use Rattle.records.proofs.Joined.{join_map_append}
 use Rattle.records.proofs.Producing.{Answered, refused as refused_for}
 use Rattle.design.specs.Limits.{greatest_stages, broken}

@@ -2,8 +2,7 @@
 use Rattle.std.specs.Prelude.{ℕ, List, length}
 use Rattle.records.specs.Design.{Design}
 use Rattle.records.specs.Encode.{encode}
-use Rattle.records.specs.Writing.{writing_answer, writing_after}
-use Rattle.records.specs.declared.Produced.{Produced}
+use Rattle.records.specs.Writing.{Produced, writing_answer, writing_after}
 use Rattle.joiner.specs.Joining.{joined_design, designs_reason}
 
 abbrev pub designs_joining : Design → Design → ℕ → Produced
