@@ -14,7 +14,8 @@ use borrow.Author.Tests.{eqb-true, eq-eqb}
 use native.Mathlib.Decide.{dec_lt}
 use Rattle.finite.specs.Tests.{implies, all, any, bit, count, total, pick}
 use Rattle.finite.specs.Sets.{subset, has}
-use Rattle.finite.proofs.Testing.{bool_ext, true_or_false, and_intro, and_left, and_right, implies_at, implies_intro, all_at, all_intro, any_none, below, or_right, or_false_right}
+use Rattle.finite.proofs.Testing.{bool_ext, implies_at, implies_intro, all_at, all_intro, any_none, below, or_false_right}
+use Rattle.std.proofs.lemmas.Bool.{cases_Bool, and_from, and_parts, or_right}
 use Rattle.finite.proofs.Xor.{bit_cases, digits_eq, xor_bit, and_bit}
 use Rattle.finite.proofs.Subsets.{subset_eq, eq_subset, subset_iff}
 
@@ -63,7 +64,7 @@ sets-eq n a b la lb h = bits_eq n a b la lb (λ i l. sym (has_is a i) ∙ ap bit
 -- a set that is not empty has an element
 pub some_element : (n a : ℕ) → a < 2 ^ n → a ≢ 0 → any n (has a) ≡ true
 some_element n a l ne =
-    ⊎_elim (λ t. t) (λ f. absurd (ne (sets-eq n a 0 l (pow_pos n) (λ i k. any_none n (has a) f i k ∙ sym (has_none i))))) (true_or_false (any n (has a)))
+    ⊎_elim (λ t. t) (λ f. absurd (ne (sets-eq n a 0 l (pow_pos n) (λ i k. any_none n (has a) f i k ∙ sym (has_none i))))) (cases_Bool (any n (has a)))
 
 -- ---- xor and subsets
 
@@ -113,11 +114,11 @@ pub subset_split : (k a r x : ℕ) → r < 2 ^ k → subset (a * 2 ^ k + r) x �
 subset_split k a r x l =
     bool_ext _ _
     (λ e. let z = sym whole ∙ subset_eq (a * 2 ^ k + r) x e in
-    and_intro
+    and_from _ _
     (eq_subset a (x / 2 ^ k) (sym (high _ k (and_lt' r)) ∙ ap (λ (y : ℕ). y / 2 ^ k) z ∙ high a k l))
     (sym (subset_low k r x l) ∙ eq_subset r (x % 2 ^ k) (sym (low _ k (and_lt' r)) ∙ ap (λ (y : ℕ). y % 2 ^ k) z ∙ low a k l)))
     (λ e. eq_subset (a * 2 ^ k + r) x
-    (whole ∙ ap₂ (λ (y z : ℕ). y * 2 ^ k + z) (subset_eq a (x / 2 ^ k) (and_left _ _ e)) (subset_eq r (x % 2 ^ k) (subset_low k r x l ∙ and_right (subset a (x / 2 ^ k)) _ e))))
+    (whole ∙ ap₂ (λ (y z : ℕ). y * 2 ^ k + z) (subset_eq a (x / 2 ^ k) (and_parts _ _ e).0) (subset_eq r (x % 2 ^ k) (subset_low k r x l ∙ (and_parts (subset a (x / 2 ^ k)) _ e).1))))
   where
     and_lt' : (r : ℕ) → bit_and r (x % 2 ^ k) < 2 ^ k
     and_lt' r = omega (arith, lib.Bits.and_le_r r (x % 2 ^ k), mod-lt x (pow_pos k))

@@ -10,7 +10,8 @@ use lib.Dec.{eqb, ltb}
 use lib.ListN.{length, take, drop}
 use borrow.Author.Tests.{eqb-true, eqb-false, eq-eqb, ne_eqb, ltb-true, ltb-false, lt-ltb, le-ltb, not-true, not-false}
 use Rattle.finite.specs.Faults.{first_fault}
-use Rattle.finite.proofs.Testing.{clash, not_true_false, and_intro, and_left, and_right}
+use Rattle.finite.proofs.Testing.{clash}
+use Rattle.std.proofs.lemmas.Bool.{false_from_ne_true, and_from, and_parts}
 use Rattle.finite.proofs.Faults.{fault_either, fault_none}
 use Rattle.records.proofs.Producing.{success_file, success_rest, refusal_after}
 use Rattle.design.specs.Limits.{greatest_stages}
@@ -18,16 +19,15 @@ use Rattle.records.specs.Design.{Design}
 use Rattle.design.specs.Reading.{refused, means, reading, reason_of, meaning}
 use Rattle.design.proofs.Written.{read_means}
 use Rattle.design.proofs.Reasons.{reason_range, reason_none, reason_some}
-use Rattle.joiner.specs.Joining.{joined, same_shares, joined_reason, joined_after, Joinable, JoiningExplained}
-use Rattle.joiner.specs.Joining.{first_refused, second_refused, shares_differ, stages_exceed, output_short, joins}
+use Rattle.joiner.specs.Joining.{joined, same_shares, joined_reason, joined_after, Joinable, JoiningExplained, first_refused, second_refused, shares_differ, stages_exceed, output_short, joins}
 
 -- equal widths and share counts, as a test
 module _ (d e : Design) where
   same_shares_lem : d.m ≡ e.m → d.s ≡ e.s → same_shares d e ≡ true
-  same_shares_lem p q = and_intro (eq-eqb _ _ p) (eq-eqb _ _ q)
+  same_shares_lem p q = and_from _ _ (eq-eqb _ _ p) (eq-eqb _ _ q)
 
   shares_same : same_shares d e ≡ true → (d.m ≡ e.m) × (d.s ≡ e.s)
-  shares_same h = (eqb-true _ _ (and_left (eqb d.m e.m) _ h), eqb-true _ _ (and_right (eqb d.m e.m) _ h))
+  shares_same h = (eqb-true _ _ (and_parts (eqb d.m e.m) _ h).0, eqb-true _ _ (and_parts (eqb d.m e.m) _ h).1)
 
 -- ---- explained
 
@@ -66,7 +66,7 @@ module _ (f g : List ℕ) (d e : Design) (a : reading f ≡ means d) (b : readin
   differ_answered : (room : ℕ) → ¬ ((d.m ≡ e.m) × (d.s ≡ e.s)) → joined_reason f g room ≡ 19
   unfolding joined_reason first_fault
   differ_answered room n =
-      let s = of_meanings (λ x y. same_shares x y ≡ false) (not_true_false _ (λ h. n (shares_same d e h))) in
+      let s = of_meanings (λ x y. same_shares x y ≡ false) (false_from_ne_true _ (λ h. n (shares_same d e h))) in
       simp (a, b, s)
 
   exceed_answered : (room : ℕ) → d.m ≡ e.m → d.s ≡ e.s → greatest_stages < d.k + e.k → joined_reason f g room ≡ 20

@@ -8,19 +8,19 @@ use Prim.Native.Nat.{ℕ, ◌+◌, ◌≤◌, ◌<◌}
 use native.Mathlib.Omega.{arith}
 use lib.ListN.{length}
 use Rattle.finite.specs.Faults.{first_fault}
-use Rattle.anf.specs.Tables.{entry}
-use Rattle.records.specs.Records.{join, a_record, end_record}
+use Rattle.anf.specs.Tables.{entry, TableFits}
+use Rattle.std.specs.List.{concat}
+use Rattle.records.specs.Records.{a_record, end_record}
 use Rattle.std.specs.Prelude.{Err}
 use Rattle.reasons.specs.declared.Reason.{Reason}
 use Rattle.reasons.specs.declared.Reason.TheVariants.{SharesDiffer, TooManyStages}
 use Rattle.reasons.specs.Numbers.{number}
 use Rattle.records.specs.Writing.{writing_answer, writing_after, produced_of}
 use Rattle.records.specs.declared.Produced.{Produced}
-use Rattle.records.proofs.Joined.{join_map_append}
+use Rattle.records.proofs.Concat.{concat_map_append}
 use Rattle.records.proofs.Producing as rules
 use Rattle.design.specs.Limits.{greatest_stages, broken}
 use Rattle.records.specs.Design.{Design}
-use Rattle.anf.specs.Tables.{TableFits}
 use Rattle.records.specs.Encode.{stage_bytes, encode}
 use Rattle.design.specs.Reading.{refused, means, reading}
 use Rattle.design.proofs.Limits.{bounds, unbroken}
@@ -44,7 +44,7 @@ answered a = record { value = a.kept.answer; output_after = a.kept.output }
 refuses : (f g out : List ℕ) (k : Reason) → JoiningExplained f g (length out) (number k) → Answered f g out (produced_of (Err k)) out
 refuses f g out k p = record { kept = rules.refused _ (joined f g) out k ((joined_explained f g (length out) (number k)).1 p) }
 
--- ---- `join`: one of the files does not read, with reason r; or they read as x and y, which are the same files
+-- ---- `concat`: one of the files does not read, with reason r; or they read as x and y, which are the same files
 
 module _ (f g out : List ℕ) (r : Reason) (p : ℕ) where
   pub first_unread : refused (number r) p ≡ reading f → Answered f g out (produced_of (Err r)) out
@@ -78,18 +78,18 @@ module _ (f g : List ℕ) (d e : Design) (rd : reading f ≡ means d) (re : read
       joinable = record { first = rd; second = re; width = em; shares = es; stages = few }
 
       -- the parts that are written are those of the joined file
-      parts_joined : file_of d.m d.s (d.k + e.k) d.box e.box (join (map stage_bytes d.stages)) (join (map stage_bytes e.stages)) ≡ joined f g
+      parts_joined : file_of d.m d.s (d.k + e.k) d.box e.box (concat (map stage_bytes d.stages)) (concat (map stage_bytes e.stages)) ≡ joined f g
       unfolding file_of front_of joined encode
       parts_joined =
           let numbers = a_record 1 (d.m ∷ d.s ∷ (d.k + e.k) ∷ []) in
           let box = a_record 2 (map (entry e.box) d.box) in
-          let stages = join (map stage_bytes d.stages) ++ join (map stage_bytes e.stages) in
+          let stages = concat (map stage_bytes d.stages) ++ concat (map stage_bytes e.stages) in
           append_assoc numbers box (stages ++ end_record)
-          ∙ ap (λ (x : List ℕ). numbers ++ (box ++ (x ++ end_record))) (sym (join_map_append stage_bytes d.stages e.stages))
+          ∙ ap (λ (x : List ℕ). numbers ++ (box ++ (x ++ end_record))) (sym (concat_map_append stage_bytes d.stages e.stages))
           ∙ ap₂ (λ (x y : Design). encode (joined_design x y)) (read_means f d rd) (read_means g e re)
 
-      module _ (t u first second : List ℕ) (et : t ≡ d.box) (eu : u ≡ e.box) (ex : first ≡ join (map stage_bytes d.stages))
-          (ey : second ≡ join (map stage_bytes e.stages)) where
+      module _ (t u first second : List ℕ) (et : t ≡ d.box) (eu : u ≡ e.box) (ex : first ≡ concat (map stage_bytes d.stages))
+          (ey : second ≡ concat (map stage_bytes e.stages)) where
         file_is : file_of d.m d.s (d.k + e.k) t u first second ≡ joined f g
         file_is = rw (et, eu, ex, ey) parts_joined
 

@@ -9,7 +9,8 @@ use native.Mathlib.Omega.{arith}
 use lib.Dec.{eqb}
 use borrow.Author.Tests.{eqb-true, eq-eqb}
 use Rattle.finite.specs.Tests.{count}
-use Rattle.finite.proofs.Testing.{bool_ext, and_intro, and_right}
+use Rattle.finite.proofs.Testing.{bool_ext}
+use Rattle.std.proofs.lemmas.Bool.{and_from, and_parts}
 use Rattle.finite.specs.Maps.{Injective}
 use Rattle.finite.proofs.Counting.{count_congr, count_mono, count_one, count_some, count_unique, count_renamed, pigeonhole, onto, onto_once}
 use Rattle.sharing.specs.Stages.{ExactlyOne}
@@ -59,15 +60,15 @@ even→counted N M sum h g sum_lt into g_into g_inj u τ l =
         omega (
           arith,
           u x.0 x.1 y ly (sym x.2),
-          count_mono N (λ σ. eqb (sum σ) x.0 && eqb (h σ) y) (λ σ. eqb (h σ) y) (λ σ k. and_right (eqb (sum σ) x.0) (eqb (h σ) y)),
+          count_mono N (λ σ. eqb (sum σ) x.0 && eqb (h σ) y) (λ σ. eqb (h σ) y) (λ σ k. λ e. (and_parts (eqb (sum σ) x.0) (eqb (h σ) y) e).1),
         )
 
 module _ (N M : ℕ) (sum h g : ℕ → ℕ) (sum_lt : (σ : ℕ) → sum σ < M) (c : Carries N M sum h g) where
   pub injective→even : Injective N h → Even N M sum h g
   injective→even inj x lx τ lτ e =
       count_congr N (λ σ. eqb (sum σ) x && eqb (h σ) τ) (λ σ. eqb (h σ) τ)
-      (λ σ l. bool_ext (eqb (sum σ) x && eqb (h σ) τ) (eqb (h σ) τ) (and_right (eqb (sum σ) x) (eqb (h σ) τ))
-      (λ t. and_intro
+      (λ σ l. bool_ext (eqb (sum σ) x && eqb (h σ) τ) (eqb (h σ) τ) (λ e. (and_parts (eqb (sum σ) x) (eqb (h σ) τ) e).1)
+      (λ t. and_from _ _
       (eq-eqb (sum σ) x (c.g_inj (sum σ) x (sum_lt σ) lx (sym (c.sums σ l) ∙ ap sum (eqb-true (h σ) τ t) ∙ e)))
       t))
       ∙ pigeonhole N h inj c.into τ lτ
@@ -77,8 +78,8 @@ module _ (N M : ℕ) (sum h g : ℕ → ℕ) (sum_lt : (σ : ℕ) → sum σ < M
       let ex : sum a ≡ sum b = c.g_inj (sum a) (sum b) (sum_lt a) (sum_lt b) (sym (c.sums a la) ∙ ap sum e ∙ c.sums b lb) in
       count_unique N (λ σ. eqb (sum σ) (sum a) && eqb (h σ) (h a)) (u (sum a) (sum_lt a) (h a) (c.into a la) (c.sums a la))
       a b la lb
-      (and_intro (eq-eqb (sum a) (sum a) refl) (eq-eqb (h a) (h a) refl))
-      (and_intro (eq-eqb (sum b) (sum a) (sym ex)) (eq-eqb (h b) (h a) (sym e)))
+      (and_from _ _ (eq-eqb (sum a) (sum a) refl) (eq-eqb (h a) (h a) refl))
+      (and_from _ _ (eq-eqb (sum b) (sum a) (sym ex)) (eq-eqb (h b) (h a) (sym e)))
 
   pub counted→even : Counted N M sum h g → Even N M sum h g
   counted→even k =

@@ -1,5 +1,5 @@
 use Rattle.std.proofs.Common.{arith}
-use Rattle.anf.proofs.InPlace.{sums_start, whole_blocks, sums_more, sums_end}
+use Rattle.anf.proofs.WordSums.{sums_start, whole_blocks, sums_more, sums_end}
 use Rattle.anf.proofs.words.sum_subsets.Goals as goal
 
 pub loop-k-init : goal.loop-k-init

@@ -14,14 +14,13 @@ use lib.Pow.{pow_pos}
 use lib.Dec.{eqb}
 use lib.ListN.{length, get_or, set, drop, replicate, length-set, drop_of_length-le}
 use lib.Seq.{drop-cons}
-use Rattle.std.specs.Int.Bits.{xor_shifted}
+use Rattle.std.specs.Int.Bits.{xor_shifted, xor_assoc}
 use Rattle.std.proofs.Math.Seq.{get_or-set_same, get_or-set_other}
 use Rattle.std.proofs.lemmas.List.{get_or-replicate}
 use borrow.Author.Tests.{eqb-true, eqb-false, eq-eqb, ne_eqb}
 use Rattle.finite.specs.Tests.{pick, tabulate}
 use Rattle.finite.specs.Sets.{subset}
 use Rattle.finite.proofs.Testing.{pick_true, pick_false, tabulate_length, tabulate_at, tabulate_of, tabulate_congr}
-use Rattle.finite.proofs.Xor.{xor_assoc}
 use Rattle.finite.proofs.Subsets.{eq_subset, ne_subset}
 use Rattle.finite.proofs.Sums.{xor_below_one, pick_zero, pick_both, pick_swap}
 use Rattle.anf.specs.NormalForm.{subset_sum}
