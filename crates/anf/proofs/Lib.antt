@@ -8,5 +8,5 @@ pub mod PassingLists
 pub mod Degree
 pub mod TransformAnswer
 pub mod Tables
-pub mod Turning
+pub mod WordDegree
 pub mod Bench

@@ -14,7 +14,8 @@ use Rattle.finite.specs.Sums.{xor_below}
 use Rattle.finite.specs.Sets.{subset}
 use Rattle.finite.proofs.Testing.{clash}
 use Rattle.std.proofs.lemmas.Bool.{cases_Bool}
-use Rattle.finite.proofs.Xor.{xor_left_comm, xor_left_cancel, xor_ring, and_assoc, and_xor, and_or, xor_and}
+use Rattle.std.proofs.lemmas.Nat.{and_assoc}
+use Rattle.finite.proofs.Xor.{xor_left_comm, xor_left_cancel, xor_ring, and_xor, and_or, xor_and}
 use Rattle.finite.proofs.Sums.{xor_below_ext, xor_below_xor, xor_below_none, xor_below_one, pick_lt, pick_zero}
 use Rattle.finite.proofs.Subsets.{eq_subset, subset_self, subset_gt, subset_trans, subset_iff}
 use Rattle.anf.specs.Terms.{value_at, before, IsTermList, named, names, clear, Depends}
@@ -102,13 +103,13 @@ unique_terms n a b ta tb h = unique_rising (2 ^ n) a b (terms_rising n a ta) (te
 
 pub clear_add : (x group : ℕ) → clear x group + bit_and x group ≡ x
 clear_add x group =
-    let e : bit_and x (bit_and x group) ≡ bit_and x group = sym (and_assoc x x group) ∙ ap (λ (y : ℕ). bit_and y group) (and_self x) in
+    let e : bit_and x (bit_and x group) ≡ bit_and x group = sym (and_assoc group x x) ∙ ap (λ (y : ℕ). bit_and y group) (and_self x) in
     omega (arith, xor_add_and x (bit_and x group), e)
 
 pub and_clear : (t x group : ℕ) → bit_and t group ≡ 0 → bit_and t (clear x group) ≡ bit_and t x
 and_clear t x group h =
     and_xor t x (bit_and x group)
-    ∙ ap (bit_xor (bit_and t x)) (ap (bit_and t) (and_comm x group) ∙ sym (and_assoc t group x) ∙ ap (λ (y : ℕ). bit_and y x) h)
+    ∙ ap (bit_xor (bit_and t x)) (ap (bit_and t) (and_comm x group) ∙ sym (and_assoc x t group) ∙ ap (λ (y : ℕ). bit_and y x) h)
     ∙ xor_zero_r (bit_and t x)
 
 pub subset_clear : (t x group : ℕ) → bit_and t group ≡ 0 → subset t (clear x group) ≡ subset t x
@@ -134,7 +135,7 @@ clear_xor x d group h = rw (xor_and, h) (simp xor_ring)
 clear_subset : (x group : ℕ) → subset (clear x group) x ≡ true
 clear_subset x group =
     eq_subset (clear x group) x
-    (xor_and x (bit_and x group) x ∙ ap₂ bit_xor (and_self x) (and_comm (bit_and x group) x ∙ sym (and_assoc x x group) ∙ ap (λ (y : ℕ). bit_and y group) (and_self x)))
+    (xor_and x (bit_and x group) x ∙ ap₂ bit_xor (and_self x) (and_comm (bit_and x group) x ∙ sym (and_assoc group x x) ∙ ap (λ (y : ℕ). bit_and y group) (and_self x)))
 
 pub names_flip : (group n : ℕ) (l : List ℕ) → Rising n l → names group l ≡ true
     → (x : ℕ) × (x < n) × (value_at l x ≡ bit_xor 1 (value_at l (clear x group)))
@@ -160,7 +161,7 @@ names_differ group n l r h =
     (w.0, w.1, λ e. let z : ◌≡◌ {A = ℕ} 1 0 = xor_left_cancel v 1 0 (xor_comm v 1 ∙ sym w.2 ∙ e ∙ sym (xor_zero_r v)) in omega arith)
 
 pub clear_clear : (x group : ℕ) → clear (clear x group) group ≡ clear x group
-clear_clear x group = clear_xor x (bit_and x group) group (and_assoc x group group ∙ ap (bit_and x) (and_self group))
+clear_clear x group = clear_xor x (bit_and x group) group (and_assoc group x group ∙ ap (bit_and x) (and_self group))
 
 -- a list that names a variable of the group depends on the group
 pub names_depends : (n group : ℕ) (l : List ℕ) → IsTermList n l → names group l ≡ true → Depends n group (value_at l)

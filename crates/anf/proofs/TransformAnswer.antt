@@ -18,7 +18,8 @@ use Rattle.anf.specs.Tables.{entries_below}
 use Rattle.anf.specs.Inside.Words.{words_degree}
 use Rattle.anf.specs.Transform.{greatest_width, transform_reason, transform_after, transformed}
 use Rattle.anf.proofs.SubsetSums.{subset_sum_twice, subset_sum_ext, subset_sum_lt}
-use Rattle.anf.proofs.Tables.{entries_at, entries_intro, words_degree_lem}
+use Rattle.anf.proofs.Tables.{entries_at, entries_intro}
+use Rattle.anf.proofs.WordDegree.{words_degree_lem}
 
 -- the reason answered, and the output afterwards
 pub record Answered (m : ℕ) (t out : List ℕ) (r : ℕ) (after : List ℕ) : Type 0 where

@@ -8,7 +8,6 @@ use Rattle.finite.specs.Sets.{subset}
 use Rattle.finite.specs.Maps.{repeats, met_before}
 use Rattle.finite.specs.Faults.{first_fault}
 use Rattle.anf.specs.Terms.{value_at}
-use Rattle.std.specs.List.{concat}
 use Rattle.records.specs.Records.{a_record}
 use Rattle.records.specs.Encode.{stage_bytes, encode}
 use Rattle.records.specs.Bytes.{term_bytes}

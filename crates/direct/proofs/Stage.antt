@@ -17,7 +17,8 @@ use Rattle.finite.specs.Sets.{subset, has}
 use Rattle.std.proofs.lemmas.Bool.{cases_Bool, and_parts}
 use Rattle.finite.proofs.Testing.{clash, any_some, any_none, any_congr, tabulate_at, tabulate_congr, tabulate_length}
 use Rattle.finite.proofs.Sums.{xor_below_ext, xor_below_none, xor_below_one, xor_below_swap, xor_below_bit, xor_below_lt, pick_zero, xor_below_pick}
-use Rattle.finite.proofs.Elements.{has_none, bits_eq}
+use Rattle.finite.proofs.Elements.{has_none}
+use Rattle.std.proofs.lemmas.Nat.Bits.{same_from_bits_below}
 use Rattle.anf.specs.NormalForm.{subset_sum, degree}
 use Rattle.anf.specs.Terms.{value_at}
 use Rattle.anf.specs.Tables.{entry, TableFits}
@@ -152,7 +153,7 @@ component_value m s place t c b σ lc lb =
 pub direct_correct : (m s : ℕ) (place : ℕ → ℕ) → Outside s place → (t : List ℕ) → TableFits m t → degree m (entry t) < s
     → Correct m s (component m (direct_stage m s place t).lists) t
 direct_correct m s place o t fits low σ l =
-    bits_eq m _ _
+    same_from_bits_below m _ _
     (xor_below_lt s m (λ j. component m (direct_stage m s place t).lists j σ) (λ j k. share_lt m j (output (direct_stage m s place t).lists σ)))
     (fits.below (sum m s σ) (sum_lt m s σ))
     (λ b k. sym (xor_below_bit s b (λ j. component m (direct_stage m s place t).lists j σ))

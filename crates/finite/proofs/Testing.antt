@@ -1,7 +1,7 @@
 -- Laws of the tests over numbers below n, of the lowest that passes, and of tabulated lists.
 -- Assumes nothing.
 use mathlib.Core.Path.{◌≡◌, refl, sym, ap, ap₂, ◌∙◌}
-use mathlib.Core.Logic.{◌≢◌, ◌⊎◌, inl, inr, ⊎_elim}
+use mathlib.Core.Logic.{◌⊎◌, inl, inr, ⊎_elim}
 use mathlib.Core.Bool.{Bool, true, false, ◌&&◌, ◌||◌, true≢false, false≢true, not}
 use mathlib.Core.List.{List, [], ◌∷◌, ◌++◌, map, append_assoc, append-nil}
 use Prim.Native.Nat.{ℕ, zero, suc, ◌+◌, ◌≤◌, ◌<◌}
@@ -9,10 +9,11 @@ use native.Mathlib.Nat.{add-zero, le_of_suc-le-suc, not-suc-le-zero, le_refl, le
 use native.Mathlib.Numerals.{add-one}
 use native.Mathlib.Omega.{arith}
 use lib.Dec.{eqb, ltb}
-use borrow.Author.Tests.{eqb-true, eqb-false, lt-ltb, le-ltb, ltb-true, ltb-false}
+use borrow.Author.Tests.{eqb-true}
 use lib.ListN.{length, get_or, drop, set, length-map, get_or-map}
 use lib.Seq.{set_at, drop-cons, ext_get_or}
 use Rattle.std.proofs.lemmas.Bool.{cases_Bool, false_from_ne_true, and_from, and_parts, or_left, or_right, or_parts, or_from, or_cases}
+use Rattle.std.proofs.lemmas.Bool.Decides.{nat_tests}
 use Rattle.finite.specs.Tests.{pick, implies, all, any, first, tried, tabulate}
 
 -- ---- Bool
@@ -123,15 +124,7 @@ all_and n p q =
     (λ e. all_intro n _ (λ i l. and_from _ _ (all_at n p (and_parts (all n p) (all n q) e).0 i l) (all_at n q (and_parts (all n p) (all n q) e).1 i l)))
 
 pub ltb_suc : (u n : ℕ) → ltb u (suc n) ≡ (ltb u n || eqb u n)
-ltb_suc u n = at (cases_Bool (ltb u n)) (cases_Bool (eqb u n))
-  where
-    at : (ltb u n ≡ true) ⊎ (ltb u n ≡ false) → (eqb u n ≡ true) ⊎ (eqb u n ≡ false) → ltb u (suc n) ≡ (ltb u n || eqb u n)
-    at (inl l) e = lt-ltb u (suc n) (omega (arith, ltb-true u n l)) ∙ sym (or_left (ltb u n) (eqb u n) l)
-    at (inr l) (inl e) = lt-ltb u (suc n) (omega (arith, eqb-true u n e)) ∙ sym (or_right (ltb u n) (eqb u n) e)
-    at (inr l) (inr e) = le-ltb u (suc n) (above (ltb-false u n l) (eqb-false u n e)) ∙ sym (or_from _ _ l e)
-      where
-        above : n ≤ u → u ≢ n → suc n ≤ u
-        above k d = omega (arith, d)
+ltb_suc u n = grind (arith, nat_tests)
 
 -- one more number, as code counts
 pub all_step : (n : ℕ) (p : ℕ → Bool) → all (n + 1) p ≡ (all n p && p n)

@@ -57,13 +57,6 @@ cases3 P p000 p001 p010 p011 p100 p101 p110 p111 a b c =
     (bit_cases (λ y. P 0 y (c % 2)) (bit_cases (λ z. P 0 0 z) p000 p001 c) (bit_cases (λ z. P 0 1 z) p010 p011 c) b)
     (bit_cases (λ y. P 1 y (c % 2)) (bit_cases (λ z. P 1 0 z) p100 p101 c) (bit_cases (λ z. P 1 1 z) p110 p111 c) b) a
 
-pub and_assoc : (a b c : ℕ) → bit_and (bit_and a b) c ≡ bit_and a (bit_and b c)
-and_assoc =
-    bin_ind (λ a. (b c : ℕ) → bit_and (bit_and a b) c ≡ bit_and a (bit_and b c)) (λ b c. refl)
-    (λ a ih b c. digits_eq (bit_and (bit_and a b) c) (bit_and a (bit_and b c))
-    (simp (and_half, ih))
-    (simp and_odd (cases3 (λ x y z. min (min x y) z ≡ min x (min y z)) refl refl refl refl refl refl refl refl a b c)))
-
 pub and_xor : (a b c : ℕ) → bit_and a (bit_xor b c) ≡ bit_xor (bit_and a b) (bit_and a c)
 and_xor =
     bin_ind (λ a. (b c : ℕ) → bit_and a (bit_xor b c) ≡ bit_xor (bit_and a b) (bit_and a c)) (λ b c. refl)

@@ -14,7 +14,6 @@ use Rattle.anf.specs.Terms.{passing}
 use Rattle.anf.specs.Tables.{entries_below}
 use Rattle.design.specs.Limits.{broken}
 use Rattle.records.specs.Bytes.{term_bytes}
-use Rattle.std.specs.List.{concat}
 use Rattle.records.specs.Records.{a_record}
 use Rattle.records.specs.Encode.{stage_bytes, encode}
 use Rattle.records.specs.Writing.{writing_answer, writing_after}

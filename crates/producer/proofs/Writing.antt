@@ -6,7 +6,6 @@ use Prim.Native.Nat.{ℕ, ◌+◌, ◌*◌, ◌/◌, ◌%◌, ◌≤◌, ◌<◌
 use native.Mathlib.Omega.{arith}
 use lib.ListN.{length, get_or, take, length-append}
 use Rattle.finite.proofs.Testing.{tabulate_at, tabulate_length}
-use Rattle.std.specs.List.{concat}
 use Rattle.records.specs.Records.{a_record, list_record, end_record}
 use Rattle.records.specs.Encode.{stage_bytes, encode}
 use Rattle.records.specs.Inside.Overwriting.{list_records}

@@ -4,7 +4,8 @@ use mathlib.Core.Path.{◌≡◌, refl, sym, ap, ap₂, ◌∙◌, subst}
 use mathlib.Core.Logic.{◌≢◌}
 use mathlib.Core.Bool.{◌&&◌}
 use Prim.Native.Nat.{ℕ, zero, suc, ◌+◌, ◌-◌, ◌*◌, ◌/◌, ◌%◌, ◌^◌, ◌≤◌, ◌<◌}
-use native.Mathlib.Nat.{le_of_suc-le-suc, not-suc-le-zero, add-zero, add_comm, add_assoc, mul-zero, mul-one, mul-suc, mul_comm, mul_assoc, mul-add, add-mul, add-sub_of_le, mul-le-mul_left, div-one, div-add-mod', div-div-eq-div-mul, div-lt_iff_lt-mul, mod-one, mod-lt, mod-eq_of_lt}
+use native.Mathlib.Nat.{add-zero, add_comm, add_assoc, mul-zero, mul-one, mul-suc, mul_comm, mul_assoc, mul-add, add-mul, add-sub_of_le, mul-le-mul_left}
+use native.Mathlib.Nat.{le_of_suc-le-suc, not-suc-le-zero, div-one, div-add-mod', div-div-eq-div-mul, div-lt_iff_lt-mul, mod-one, mod-lt, mod-eq_of_lt}
 use native.Mathlib.Decide.{dec_lt}
 use native.Mathlib.Omega.{arith}
 use lib.Arith.{digits_lt, digits_div, digits_mod, mod-mul, lt-one}

@@ -67,9 +67,6 @@ module _ (w s : ℕ) (g : Stage) (table : TableFits w g.table) (count : length g
   stage_into : (σ : ℕ) → σ < 2 ^ (w * s) → output g.lists σ < 2 ^ (w * s)
   stage_into σ l = stage_output_lt w s g count σ
 
-  pub stage_carries : Carries (2 ^ (w * s)) (2 ^ w) (sum w s) (output g.lists) (entry g.table)
-  stage_carries = carries w s (output g.lists) g.table stage_into table perm right
-
   pub stage_uniform→injective : Uniform w s (output g.lists) g.table → Injective (2 ^ (w * s)) (output g.lists)
   stage_uniform→injective = uniform→injective w s (output g.lists) g.table stage_into table perm right
 
