@@ -60,7 +60,9 @@ pub fn words_degree(words: &[u8]) -> usize
 
 // Writes the sums over subsets of the input over the front of the output. By m, as `sum_subsets` goes by it.
 fn write_sums(m: usize, input: &[u8], output: &mut [u8])
-    requires { (m ≤ greatest_width) × (length input.now ≡ 2 ^ m) × (2 ^ m ≤ length output.old) }
+    requires width { m ≤ greatest_width }
+    requires entries { length input.now ≡ 2 ^ m }
+    requires room { 2 ^ m ≤ length output.old }
     ensures { output.new ≡ transformed m input.now ++ drop (2 ^ m) output.old }
 {
     let front = &mut output[..input.len()];

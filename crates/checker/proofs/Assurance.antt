@@ -1,6 +1,6 @@
 -- From the verdict's reason 0 alone: every component ignores a share, every setting of all shares but one is met exactly once at every stage whatever the
 -- secret, what a component reads is met equally often, every run answers what the definitions give, and the output shares sum to S of the secret.
--- Each accepted stage carries sharings one to one, and so does their chain. Assumes nothing.
+-- Each accepted stage spreads the sharings of a secret equally, and so does their chain. Assumes nothing.
 use mathlib.Core.Path.{◌≡◌, sym, ap, ◌∙◌}
 use mathlib.Core.List.{List}
 use Prim.Native.Nat.{ℕ, ◌^◌, ◌<◌, ◌≤◌}
@@ -18,45 +18,40 @@ use Rattle.sharing.specs.Stages.{component}
 use Rattle.sharing.specs.Chain.{handed, chained}
 use Rattle.sharing.specs.Sharing.{packed}
 use Rattle.threshold.specs.Running.{five_sum, output_shares, running}
-use Rattle.sharing.proofs.Meetings.{AllBijective, met_once, outcome, setting_independent, value_independent, reads_equally}
+use Rattle.sharing.proofs.Meetings.{AllSpread, stage_spreads, met_once, outcome, setting_independent, value_independent, reads_equally}
 use Rattle.threshold.proofs.Packing.{share_fits_lem, packed_sum, packed_unpacked, unpacked_packed, unpacked_length, unpacked_fits, unpacked_sum}
 use Rattle.sharing.proofs.Packing.{packed_lt}
 use Rattle.threshold.proofs.Running.{running_success, running_sharing}
 use Rattle.checker.specs.Verdict.{verdict}
 use Rattle.checker.specs.Accepted.{Sound}
 use Rattle.checker.specs.Assurance.{SharingOf, OneSharing, AssuredDesign, Assured, Blind}
-use Rattle.checker.proofs.Chaining.{chain_permutes}
 use Rattle.checker.proofs.Exactly.{reason_zero}
 
 module _ (d : Design) (wf : WellFormed d) (a : Sound d) where
   within : {t : ℕ} → t < length d.stages → t < d.k
   within l = let e = wf.count in omega arith
 
-  -- each stage carries sharings one to one: its table is a permutation, as the chain of tables is S and S is one
-  bijective : AllBijective d.m d.s d.stages
-  bijective t l =
-      record {
-        table = (wf.stage t (within l)).table;
-        count = (wf.stage t (within l)).count;
-        permutation = chain_permutes d wf a.box a.chain t (within l);
-        correct = (a.stages t (within l)).correct;
-        uniform = (a.stages t (within l)).uniform;
-      }
+  -- each stage spreads the sharings of a secret equally over those of its value
+  spread : AllSpread d.m d.s d.stages
+  spread t l =
+      let fits = wf.stage t (within l) in
+      let good = a.stages t (within l) in
+      stage_spreads d.m d.s (stage_of d t) fits.table fits.count good.correct good.uniform
 
   pub sound_assured : AssuredDesign d
   sound_assured =
       record {
         ignores = λ i j li lj. (a.stages i li).non_complete j lj;
-        met = λ x lx i e q li le lq. met_once d.m d.s d.stages bijective x i e q lx le lq;
-        equally = λ x y lx ly i j q li lj. reads_equally d.m d.s d.stages bijective x y i lx ly j q ((a.stages i li).non_complete j lj);
+        met = λ x lx i e q li le lq. met_once d.m d.s d.stages spread x i e q lx le lq;
+        equally = λ x y lx ly i j q li lj. reads_equally d.m d.s d.stages spread x y i lx ly j q ((a.stages i li).non_complete j lj);
       }
 
   pub sound_blind : Blind d
   sound_blind =
       record {
-        settings = λ x y i e lx ly li le p. setting_independent d.m d.s d.stages bijective x y i lx ly e le p;
+        settings = λ x y i e lx ly li le p. setting_independent d.m d.s d.stages spread x y i lx ly e le p;
         values = λ x y i j z lx ly li lj.
-            value_independent d.m d.s d.stages bijective x y i lx ly (component d.m (stage_of d i).lists j) z ((a.stages i li).non_complete j lj);
+            value_independent d.m d.s d.stages spread x y i lx ly (component d.m (stage_of d i).lists j) z ((a.stages i li).non_complete j lj);
       }
 
 -- the file f reads as d, accepted or not
@@ -94,7 +89,7 @@ module _ (f : List ℕ) (d : Design) (reads : reading f ≡ means d) where
       let n = same_sharings.number x l h in
           unpacked_sum d.m d.s (handed d.stages d.k (packed d.m d.s l)) shares_most
           ∙ ap (λ (k : ℕ). sum d.m d.s (handed d.stages k (packed d.m d.s l))) (sym formed.count)
-          ∙ outcome d.m d.s d.stages (bijective d formed a) (packed d.m d.s l) n.0
+          ∙ outcome d.m d.s d.stages (spread d formed a) (packed d.m d.s l) n.0
           ∙ ap (chained d.stages) n.1
           ∙ a.chain x lx,
     )

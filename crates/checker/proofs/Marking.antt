@@ -17,7 +17,8 @@ use lib.Pow.{shl_exact}
 use borrow.Author.Tests.{eq-eqb, ne_eqb}
 use Rattle.finite.specs.Tests.{any}
 use Rattle.finite.specs.Maps.{met_before}
-use Rattle.finite.proofs.Testing.{or_right, any_step, any_none_more, or_false_right}
+use Rattle.std.proofs.lemmas.Bool.{or_right}
+use Rattle.finite.proofs.Testing.{any_step, any_none_more, or_false_right}
 use Rattle.finite.specs.Sets.{has}
 use Rattle.finite.proofs.Elements.{has_none, has_with, has_with_other}
 use Rattle.finite.proofs.Powers.{eights}

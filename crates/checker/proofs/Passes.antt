@@ -12,7 +12,8 @@ use lib.Pow.{pow_mono}
 use borrow.Author.Tests.{le-leb}
 use Rattle.finite.specs.Tests.{pick, any, first, tried, total}
 use Rattle.finite.specs.Maps.{repeats}
-use Rattle.finite.proofs.Testing.{and_intro, pick_true, pick_false, any_at, any_not, first_found, first_is, tried_all, tried_most}
+use Rattle.std.proofs.lemmas.Bool.{and_from}
+use Rattle.finite.proofs.Testing.{pick_true, pick_false, any_at, any_not, first_found, first_is, tried_all, tried_most}
 use Rattle.finite.proofs.Faults.{fault_either, fault_none}
 use Rattle.design.specs.Limits.{greatest_share_bits, greatest_stages}
 use Rattle.records.specs.Design.{Stage, Design, stage_of}
@@ -135,7 +136,7 @@ module _ (d : Design) where
 module _ (d : Design) where
   pub untried : (v : Verdict) → 1 ≤ v.reason → v.reason ≤ 11 → trials_of d v ≡ 0
   unfolding trials_of
-  untried v l h = pick_true _ _ _ (and_intro (le-leb 1 v.reason l) (le-leb v.reason 11 h))
+  untried v l h = pick_true _ _ _ (and_from _ _ (le-leb 1 v.reason l) (le-leb v.reason 11 h))
 
 -- ---- the trials of one stage
 

@@ -11,7 +11,8 @@ use lib.Seq.{drop_at}
 use lib.Dec.{leb}
 use borrow.Author.Tests.{le-leb, lt-leb}
 use Rattle.finite.specs.Faults.{first_fault}
-use Rattle.finite.proofs.Testing.{and_intro, and_false_right, pick_true, pick_false}
+use Rattle.std.proofs.lemmas.Bool.{and_from, and_right}
+use Rattle.finite.proofs.Testing.{pick_true, pick_false}
 use Rattle.finite.proofs.Faults.{fault_none, fault_append, fault_either}
 use Rattle.records.specs.Design.{Stage, Design}
 use Rattle.checker.specs.Verdict.{Verdict, answer, workspace_for, stage_faults, stages_faults, zeroed, workspace_left}
@@ -22,12 +23,12 @@ use Rattle.checker.specs.Inside.Parts.{stages_judged}
 module _ (d : Design) (reason : ℕ) (ws : List ℕ) where
   pub untouched : 1 ≤ reason → reason ≤ 9 → workspace_left d reason ws ≡ ws
   unfolding workspace_left
-  untouched l h = pick_true _ _ _ (and_intro (le-leb 1 reason l) (le-leb reason 9 h))
+  untouched l h = pick_true _ _ _ (and_from _ _ (le-leb 1 reason l) (le-leb reason 9 h))
 
   pub cleared : (reason ≡ 0) ⊎ (10 ≤ reason) → workspace_left d reason ws ≡ zeroed (workspace_for d.m d.s) ws
   unfolding workspace_left
   cleared (inl z) = rw z refl
-  cleared (inr h) = pick_false _ _ _ (and_false_right (leb 1 reason) (leb reason 9) (lt-leb reason 9 h))
+  cleared (inr h) = pick_false _ _ _ (and_right (leb 1 reason) (leb reason 9) (lt-leb reason 9 h))
 
 -- past 8, 9 and 10 the reason is 0, or above 10
 abbrev Late : Verdict → Type 0

@@ -1,14 +1,13 @@
 // One stage judged on all its sharings. Stages and components are counted from 0.
-ghost use Rattle.std.specs.Prelude.{◌≡◌, ℕ, ◌*◌, ◌/◌, ◌^◌, ◌≤◌, ◌<◌, eqb, length, get_or, drop};
+ghost use Rattle.std.specs.Prelude.{◌≡◌, ◌*◌, ◌/◌, ◌^◌, ◌≤◌, ◌<◌, eqb, length, get_or, drop};
 ghost use Rattle.finite.specs.Maps.{met_before};
-ghost use Rattle.anf.specs.Terms.{named, names};
-ghost use Rattle.records.specs.Inside.Terms.{terms_of};
+ghost use Rattle.anf.specs.Terms.{named};
 ghost use Rattle.design.specs.Inside.Held.{design_of};
 ghost use Rattle.design.specs.Inside.Lists.{lists_held};
 ghost use Rattle.sharing.specs.Sharing.{sum};
 ghost use Rattle.sharing.specs.Inside.Variables.{variables, names_every};
 ghost use Rattle.sharing.specs.Stages.{output};
-ghost use Rattle.checker.specs.Inside.Parts.{found, first_wrong, offending, first_met, FoundBelow, tries_until, lists_name};
+ghost use Rattle.checker.specs.Inside.Parts.{found, first_wrong, offending, first_met, FoundBelow, tries_until};
 ghost use Rattle.checker.specs.Inside.Marks.{Clear, Cleared};
 
 use super::forecasts::workspace_for;

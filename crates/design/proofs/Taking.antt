@@ -12,8 +12,9 @@ use lib.Seq.{take_at, drop_at, length-take-le}
 use mir.Syntax.{w64}
 use mir.Val.{Fits}
 use Rattle.records.specs.Bytes.{Bytes, u16_at, term_bytes}
-use Rattle.records.specs.Records.{join, a_record, end_record}
-use Rattle.records.proofs.Overwriting.{two_records_length}
+use Rattle.std.specs.List.{concat}
+use Rattle.records.specs.Records.{a_record, end_record}
+use Rattle.records.proofs.ListRecords.{two_records_length}
 use Rattle.records.specs.Design.{Design, stage_of, list_of}
 use Rattle.records.specs.Encode.{head_body, stage_bytes, encode}
 use Rattle.design.specs.Inside.Described.{Describes}
@@ -99,7 +100,7 @@ module _ (d : Design) where
   front = a_record 1 (head_body d) ++ a_record 2 d.box
 
   abbrev middle : List ℕ
-  middle = join (map stage_bytes d.stages)
+  middle = concat (map stage_bytes d.stages)
 
   in_three : encode d ≡ front ++ (middle ++ end_record)
   unfolding encode
@@ -130,7 +131,7 @@ module _ (f : List ℕ) (l : Layout) (d : Describes f l) where
         is_encoded : f ≡ encode (meaning f)
         is_encoded = read_encodes f (meaning f) bytes d.read
 
-        its_length : length f ≡ 7 + (4 + p) + length (join (map stage_bytes (meaning f).stages)) + 4
+        its_length : length f ≡ 7 + (4 + p) + length (concat (map stage_bytes (meaning f).stages)) + 4
         its_length = omega (arith, ap length is_encoded, parts_length (meaning f), box_size)
 
         pub end_within : e ≤ length f
@@ -140,7 +141,7 @@ module _ (f : List ℕ) (l : Layout) (d : Describes f l) where
           pub front_within : a + b ≤ length f - e
           front_within = omega (arith, its_length)
 
-          pub stages_are : take (length f - e - (a + b)) (drop (a + b) f) ≡ join (map stage_bytes (meaning f).stages)
+          pub stages_are : take (length f - e - (a + b)) (drop (a + b) f) ≡ concat (map stage_bytes (meaning f).stages)
           stages_are =
               ap (λ (x : List ℕ). take (length f - e - (a + b)) (drop (a + b) x)) is_encoded
               ∙ middle_is (meaning f) (a + b) (length f - e - (a + b)) (omega (arith, box_size)) (omega (arith, its_length, ap length is_encoded))

@@ -1,6 +1,6 @@
 -- Which designs have a file, and when two have one meaning.
 use Rattle.std.specs.Prelude.{ℕ, ◌*◌, ◌^◌, ◌≤◌, ◌<◌, ◌≡◌, false, List, [], length, get_or}
-use Rattle.anf.specs.Terms.{TermList, value_at}
+use Rattle.anf.specs.Terms.{IsTermList, value_at}
 use Rattle.anf.specs.Tables.{TableFits}
 use Rattle.records.specs.Design.{Stage, Design, stage_of, list_of}
 use Rattle.design.specs.Limits.{greatest_terms, broken}
@@ -8,7 +8,7 @@ use Rattle.design.specs.Limits.{greatest_terms, broken}
 -- up to the greatest number of terms, in n variables, strictly rising
 pub record ListFits (n : ℕ) (ts : List ℕ) : Type 0 where
   pub size : length ts ≤ greatest_terms
-  pub terms : TermList n ts
+  pub terms : IsTermList n ts
 
 pub record StageFits (m s : ℕ) (g : Stage) : Type 0 where
   pub table : TableFits m g.table

@@ -1,7 +1,7 @@
 // A design file that reads: its tables and lists, as parts of it. Stages and lists are counted from 0.
 ghost use Rattle.std.specs.Prelude.{◌≡◌, map, ◌*◌, ◌^◌, ◌<◌, length};
 ghost use Rattle.records.specs.Bytes.{Bytes};
-ghost use Rattle.records.specs.Records.{join};
+ghost use Rattle.std.specs.List.{concat};
 ghost use Rattle.design.specs.WellFormed.{WellFormed};
 ghost use Rattle.records.specs.Design.{stage_of, list_of};
 ghost use Rattle.records.specs.Encode.{stage_bytes};
@@ -90,7 +90,7 @@ impl<'a> DesignFile<'a> {
 
     /// The records of all stages, one behind the other: what stands between those of the head and the box and that of the end.
     pub fn stages(&self) -> &'a [u8]
-        ensures { result.now ≡ join (map stage_bytes (design_of self.now).stages) }
+        ensures { result.now ≡ concat (map stage_bytes (design_of self.now).stages) }
     {
         let from = record_size(3) + record_size(self.head.points());
         let end = self.file.len() - record_size(0);

@@ -1,6 +1,6 @@
 // Reading: the tests of each record in the published order, and the walk over all records.
 // They take the file and a place, and no slice from there: the place is what a fault names.
-ghost use Rattle.std.specs.Prelude.{◌≡◌, ◌+◌, ◌*◌, ◌/◌, ◌^◌, ◌≤◌, ◌<◌, true, length, take, drop, IfOk};
+ghost use Rattle.std.specs.Prelude.{◌≡◌, ◌+◌, ◌/◌, ◌^◌, ◌≤◌, ◌<◌, true, length, take, drop, IfOk};
 ghost use Rattle.std.specs.Option.{option_map_or};
 ghost use Rattle.finite.specs.Tests.{all};
 ghost use Rattle.anf.specs.Terms.{before};

@@ -58,7 +58,7 @@ pub product_low : (m s u a r : ℕ) → r < 2 ^ (m * s) → is_product m s u (a 
 unfolding is_product
 product_low m s u a r l =
     all_congr m _ _ (λ v k. ap (λ (c : ℕ). eqb c (bit (has u v)))
-    (count_congr s (λ j. has (a * 2 ^ (m * s) + r) (m * j + v)) (λ j. has r (m * j + v)) (λ j h. has_low (m * s) a r (m * j + v) l (place_lt m s j v h k))))
+    (count_congr s (λ j. has (a * 2 ^ (m * s) + r) (m * j + v)) (λ j. has r (m * j + v)) (λ j h. has_low (m * s) a r (m * j + v) (place_lt m s j v h k))))
 
 -- with no share at all only the empty term has a product
 pub product_none : (m u p : ℕ) → u < 2 ^ m → is_product m 0 u p ≡ eqb u 0

@@ -7,7 +7,7 @@ use mathlib.Core.List.{List, ◌++◌}
 use Prim.Native.Nat.{ℕ, ◌+◌, ◌*◌, ◌^◌, ◌≤◌, ◌<◌}
 use native.Mathlib.Omega.{arith}
 use lib.ListN.{length}
-use Rattle.finite.proofs.Testing.{true_or_false}
+use Rattle.std.proofs.lemmas.Bool.{cases_Bool}
 use Rattle.design.specs.Limits.{greatest_shares}
 use Rattle.records.specs.Design.{Design}
 use Rattle.design.specs.WellFormed.{WellFormed}
@@ -59,4 +59,4 @@ module _ (f g : List ℕ) (d e : Design) (j : Joinable f g d e) (l : List ℕ) w
       running_unfit (joined f g) l (joined_design d e) (joined_reads f g d e j) u ∙ sym (ap (running_onward g) (running_unfit f l d j.first u))
 
   pub joined_runs : running (joined f g) l ≡ running_onward g (running f l)
-  joined_runs = ⊎_elim runs_fit runs_unfit (true_or_false (shares_fit d.m d.s l))
+  joined_runs = ⊎_elim runs_fit runs_unfit (cases_Bool (shares_fit d.m d.s l))

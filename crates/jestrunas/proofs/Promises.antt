@@ -14,20 +14,19 @@ use Rattle.reasons.proofs.Numbers as numbers
 use Rattle.finite.specs.Tests.{pick, count}
 use Rattle.finite.specs.Sums.{xor_below}
 use Rattle.anf.specs.NormalForm.{subset_sum, degree}
-use Rattle.anf.specs.Terms.{value_at, TermList, names, Depends, passing}
+use Rattle.anf.specs.Terms.{value_at, IsTermList, names, Depends, passing}
 use Rattle.anf.specs.Points.{Points, IgnoresPoint}
 use Rattle.anf.specs.Transform.{transform_reason, transform_after}
 use Rattle.anf.specs.Bench as bench_anf
-use Rattle.anf.specs.Tables.{entry, Permutation}
+use Rattle.anf.specs.Tables.{entry, Permutation, TableFits}
 use Rattle.anf.proofs.SubsetSums.{subset_sum_twice}
 use Rattle.anf.proofs.Terms.{unique_terms, names_exactly}
 use Rattle.anf.proofs.Degree.{shares_bound}
-use Rattle.anf.proofs.Answers as answers
+use Rattle.anf.proofs.TransformAnswer as answers
 use Rattle.anf.proofs.Bench as anf_bench
 use Rattle.design.specs.Limits.{broken, checked, head_answer}
 use Rattle.records.specs.Bytes.{Bytes}
 use Rattle.records.specs.Design.{Stage, Design}
-use Rattle.anf.specs.Tables.{TableFits}
 use Rattle.design.specs.WellFormed.{StageFits, WellFormed, SameMeaning}
 use Rattle.records.specs.Encode.{encode}
 use Rattle.design.specs.Reading.{refused, means, reading}
@@ -87,11 +86,11 @@ pub transform_twice : (m : ℕ) (input output back : List ℕ) → transform_rea
 transform_twice = answers.transform_twice
 
 -- 2. Unique lists. Rising lists of terms with equal values at every point are equal.
-pub unique_lists : (n : ℕ) (a b : List ℕ) → TermList n a → TermList n b → ((x : ℕ) → x < 2 ^ n → value_at a x ≡ value_at b x) → a ≡ b
+pub unique_lists : (n : ℕ) (a b : List ℕ) → IsTermList n a → IsTermList n b → ((x : ℕ) → x < 2 ^ n → value_at a x ≡ value_at b x) → a ≡ b
 unique_lists = unique_terms
 
 -- 3. Dependence. The function of a rising list depends on a group of variables exactly when one of its terms names one of them.
-pub dependence : (n group : ℕ) (l : List ℕ) → TermList n l → (names group l ≡ true) ↔ Depends n group (value_at l)
+pub dependence : (n group : ℕ) (l : List ℕ) → IsTermList n l → (names group l ≡ true) ↔ Depends n group (value_at l)
 dependence = names_exactly
 
 -- 4. Degree. Where the coefficient at a set of s or more variables is not zero, no s functions, each independent of at least one share, sum to the table.

@@ -8,18 +8,18 @@ use Prim.Native.Nat.{ℕ, ◌+◌, ◌≤◌, ◌<◌}
 use native.Mathlib.Omega.{arith}
 use lib.ListN.{length}
 use Rattle.finite.specs.Faults.{first_fault}
-use Rattle.anf.specs.Tables.{entry}
-use Rattle.records.specs.Records.{join, a_record, end_record}
+use Rattle.anf.specs.Tables.{entry, TableFits}
+use Rattle.std.specs.List.{concat}
+use Rattle.records.specs.Records.{a_record, end_record}
 use Rattle.std.specs.Prelude.{Err}
 use Rattle.reasons.specs.declared.Reason.{Reason}
 use Rattle.reasons.specs.declared.Reason.TheVariants.{SharesDiffer, TooManyStages}
 use Rattle.reasons.specs.Numbers.{number}
 use Rattle.records.specs.Writing.{Produced, writing_answer, writing_after, produced_of}
-use Rattle.records.proofs.Joined.{join_map_append}
+use Rattle.records.proofs.Concat.{concat_map_append}
 use Rattle.records.proofs.Producing.{Answered, refused as refused_for}
 use Rattle.design.specs.Limits.{greatest_stages, broken}
 use Rattle.records.specs.Design.{Design}
-use Rattle.anf.specs.Tables.{TableFits}
 use Rattle.records.specs.Encode.{stage_bytes, encode}
 use Rattle.design.specs.Reading.{refused, means, reading}
 use Rattle.design.proofs.Limits.{bounds, unbroken}
@@ -29,7 +29,7 @@ use Rattle.joiner.specs.Inside.Parts.{front_of, file_of, room_reason, file_answe
 use Rattle.joiner.proofs.JoinedDesign.{joined_is}
 use Rattle.joiner.proofs.Reasons.{differ_answered, exceed_answered, room_answered, first_answered, second_answered, both_answered}
 
--- ---- `join`: one of the files does not read, with reason r, or they read as d and e
+-- ---- `concat`: one of the files does not read, with reason r, or they read as d and e
 
 module _ (f g : List ℕ) where
   module _ (r : Reason) (p : ℕ) (out : List ℕ) where
@@ -71,17 +71,17 @@ module _ (d e : Design) where
 
     module _ (few : d.k + e.k ≤ greatest_stages) where
       -- the parts that are written are those of the joined file
-      parts_joined : file_of d.m d.s (d.k + e.k) d.box e.box (join (map stage_bytes d.stages)) (join (map stage_bytes e.stages)) ≡ encode (joined_design d e)
+      parts_joined : file_of d.m d.s (d.k + e.k) d.box e.box (concat (map stage_bytes d.stages)) (concat (map stage_bytes e.stages)) ≡ encode (joined_design d e)
       unfolding file_of front_of encode
       parts_joined =
           let numbers = a_record 1 (d.m ∷ d.s ∷ (d.k + e.k) ∷ []) in
           let box = a_record 2 (map (entry e.box) d.box) in
-          let stages = join (map stage_bytes d.stages) ++ join (map stage_bytes e.stages) in
+          let stages = concat (map stage_bytes d.stages) ++ concat (map stage_bytes e.stages) in
           append_assoc numbers box (stages ++ end_record)
-          ∙ ap (λ (x : List ℕ). numbers ++ (box ++ (x ++ end_record))) (sym (join_map_append stage_bytes d.stages e.stages))
+          ∙ ap (λ (x : List ℕ). numbers ++ (box ++ (x ++ end_record))) (sym (concat_map_append stage_bytes d.stages e.stages))
 
-      module _ (t u first second : List ℕ) (et : t ≡ d.box) (eu : u ≡ e.box) (ex : first ≡ join (map stage_bytes d.stages))
-          (ey : second ≡ join (map stage_bytes e.stages)) where
+      module _ (t u first second : List ℕ) (et : t ≡ d.box) (eu : u ≡ e.box) (ex : first ≡ concat (map stage_bytes d.stages))
+          (ey : second ≡ concat (map stage_bytes e.stages)) where
         made_is : file_of d.m d.s (d.k + e.k) t u first second ≡ encode (joined_design d e)
         made_is = rw (et, eu, ex, ey) parts_joined
 

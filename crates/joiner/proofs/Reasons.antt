@@ -10,7 +10,8 @@ use lib.Dec.{eqb, ltb}
 use lib.ListN.{length, take, drop}
 use borrow.Author.Tests.{eqb-true, eqb-false, eq-eqb, ne_eqb, ltb-true, ltb-false, lt-ltb, le-ltb, not-true, not-false}
 use Rattle.finite.specs.Faults.{first_fault}
-use Rattle.finite.proofs.Testing.{clash, not_true_false, and_intro, and_left, and_right}
+use Rattle.finite.proofs.Testing.{clash}
+use Rattle.std.proofs.lemmas.Bool.{false_from_ne_true, and_from, and_parts}
 use Rattle.finite.proofs.Faults.{fault_here, fault_past, fault_either, fault_none}
 use Rattle.records.proofs.Producing.{success_file, success_rest, refusal_after}
 use Rattle.design.specs.Limits.{greatest_stages}
@@ -25,17 +26,17 @@ use Rattle.joiner.proofs.JoinedDesign.{joined_is}
 -- equal widths and share counts, as a test
 module _ (d e : Design) where
   same_shares_lem : d.m ≡ e.m → d.s ≡ e.s → same_shares d e ≡ true
-  same_shares_lem p q = and_intro (eq-eqb _ _ p) (eq-eqb _ _ q)
+  same_shares_lem p q = and_from _ _ (eq-eqb _ _ p) (eq-eqb _ _ q)
 
   shares_same : same_shares d e ≡ true → (d.m ≡ e.m) × (d.s ≡ e.s)
-  shares_same h = (eqb-true _ _ (and_left (eqb d.m e.m) _ h), eqb-true _ _ (and_right (eqb d.m e.m) _ h))
+  shares_same h = (eqb-true _ _ (and_parts (eqb d.m e.m) _ h).0, eqb-true _ _ (and_parts (eqb d.m e.m) _ h).1)
 
 -- ---- each number of two designs
 
 module _ (d e : Design) (room : ℕ) where
   pub differ_answered : ¬ ((d.m ≡ e.m) × (d.s ≡ e.s)) → designs_reason d e room ≡ 19
   unfolding designs_reason
-  differ_answered n = fault_here _ 19 _ 0 (ap not (not_true_false _ (λ h. n (shares_same d e h))))
+  differ_answered n = fault_here _ 19 _ 0 (ap not (false_from_ne_true _ (λ h. n (shares_same d e h))))
 
   module _ (em : d.m ≡ e.m) (es : d.s ≡ e.s) where
     same : not (same_shares d e) ≡ false

@@ -7,8 +7,8 @@ use Prim.Native.Nat.{ℕ, ◌+◌, ◌^◌, ◌≤◌}
 use native.Mathlib.Omega.{arith}
 use lib.ListN.{length, length-append}
 use Rattle.records.specs.Bytes.{Bytes}
-use Rattle.records.specs.Records.{join}
-use Rattle.records.proofs.Joined.{join_map_append}
+use Rattle.std.specs.List.{concat}
+use Rattle.records.proofs.Concat.{concat_map_append}
 use Rattle.records.specs.Design.{Stage, Design}
 use Rattle.records.specs.Encode.{stage_bytes}
 use Rattle.design.specs.Reading.{means, reading}
@@ -19,10 +19,10 @@ use Rattle.joiner.proofs.JoinedDesign.{joined_formed, joined_is}
 use Rattle.joiner.proofs.Reasons.{joined_seventeen}
 
 abbrev stages_length : List Stage → ℕ
-stages_length gs = length (join (map stage_bytes gs))
+stages_length gs = length (concat (map stage_bytes gs))
 
 stages_length_lem : (a b : List Stage) → stages_length (a ++ b) ≡ stages_length a + stages_length b
-stages_length_lem a b = ap length (join_map_append stage_bytes a b) ∙ length-append (join (map stage_bytes a)) (join (map stage_bytes b))
+stages_length_lem a b = ap length (concat_map_append stage_bytes a b) ∙ length-append (concat (map stage_bytes a)) (concat (map stage_bytes b))
 
 -- a file that reads: head, box and end, and its stages
 read_length : (f : List ℕ) (d : Design) → Bytes f → reading f ≡ means d → length f ≡ 2 ^ d.m + 15 + stages_length d.stages

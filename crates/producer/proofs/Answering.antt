@@ -14,13 +14,12 @@ use Rattle.finite.specs.Faults.{first_fault}
 use Rattle.finite.proofs.Faults.{fault_here, fault_past, fault_none}
 use Rattle.finite.proofs.Testing.{tabulate_length, tabulate_at, pick_true}
 use Rattle.anf.specs.NormalForm.{subset_sum, degree}
-use Rattle.anf.specs.Tables.{entries_below, entry}
+use Rattle.anf.specs.Tables.{entries_below, entry, TableFits}
 use Rattle.anf.specs.Inside.Words.{words_degree}
 use Rattle.anf.specs.Transform.{transform_after, transformed}
-use Rattle.anf.proofs.Answers.{input_answer, transformed_degree}
+use Rattle.anf.proofs.TransformAnswer.{input_answer, transformed_degree}
 use Rattle.anf.proofs.Tables.{entries_at}
 use Rattle.design.specs.Limits.{broken}
-use Rattle.anf.specs.Tables.{TableFits}
 use Rattle.std.specs.Prelude.{Ok, Err}
 use Rattle.reasons.specs.Numbers.{number}
 use Rattle.reasons.specs.declared.Reason.{Reason}

@@ -21,7 +21,7 @@ use Rattle.records.specs.Inside.Overwriting.{list_records}
 use Rattle.records.specs.Inside.Writes.{Writes}
 use Rattle.records.specs.declared.writer.Writer.{Writer}
 use Rattle.design.proofs.Limits.{bounds}
-use Rattle.records.proofs.Overwriting.{record_length}
+use Rattle.records.proofs.ListRecords.{record_length}
 use Rattle.records.proofs.Writes.{room_left, writes_then}
 use Rattle.producer.specs.Producing.{terms_count, produced_length}
 use Rattle.producer.specs.Inside.Filing.{table_records, one_stage_file, word_bound, terms_bound}

@@ -13,7 +13,7 @@ use Rattle.finite.specs.Maps.{repeats}
 use Rattle.anf.specs.Tables.{entries_below, entry}
 use Rattle.anf.specs.Inside.Words.{words_degree}
 use Rattle.anf.specs.Transform.{greatest_width, transform_reason, transform_after}
-use Rattle.anf.proofs.Answers.{InputPasses, reason_input, input_answer, uneven, large}
+use Rattle.anf.proofs.TransformAnswer.{InputPasses, reason_input, input_answer, uneven, large}
 use Rattle.anf.specs.NormalForm.{degree}
 use Rattle.design.specs.Limits.{Head, broken, checked}
 use Rattle.design.proofs.Limits.{bounds, one_stage, head_refused, head_made}
@@ -33,8 +33,7 @@ use Rattle.direct.specs.Inside.Placing.{Ruled, place_by}
 use Rattle.direct.specs.declared.Rule.{Rule}
 use Rattle.producer.specs.Producing.{produced, produced_reason, producing, output_after, produced_length}
 use Rattle.producer.specs.Inside.Filing.{words_file}
-use Rattle.producer.proofs.Answering.{Answered, refuses, succeeds, TableTested, DegreeTested, reason_head, reason_size, reason_entry, reason_repeat, table_tested, reason_placement, reason_degree}
-use Rattle.producer.proofs.Answering.{found_degree, found_ready, file_is, length_is, short, enough}
+use Rattle.producer.proofs.Answering.{Answered, refuses, succeeds, TableTested, DegreeTested, reason_head, reason_size, reason_entry, reason_repeat, table_tested, reason_placement, reason_degree, found_degree, found_ready, file_is, length_is, short, enough}
 
 -- ---- `produce`: the head of m, s and one stage
 

@@ -4,7 +4,7 @@ use mathlib.Core.List.{List, [], ◌∷◌}
 use Prim.Native.Nat.{ℕ, suc, ◌+◌, ◌*◌, ◌/◌, ◌%◌, ◌<◌, ◌≤◌}
 use native.Mathlib.Numerals.{towards_suc}
 use native.Mathlib.Omega.{arith}
-use lib.ListN.{length, get_or, take, drop, length-drop}
+use lib.ListN.{length, get_or, take, drop}
 use lib.Seq.{drop-cons}
 use Rattle.std.specs.Int.{w32, from_le_bytes}
 use Rattle.records.specs.Bytes.{little, u32_at, term_bytes}
@@ -27,9 +27,6 @@ terms_short (a ∷ []) h = refl
 terms_short (a ∷ b ∷ []) h = refl
 terms_short (a ∷ b ∷ c ∷ []) h = refl
 terms_short (a ∷ b ∷ c ∷ d ∷ l) h = absurd (omega arith)
-
-pub terms_end : (l : List ℕ) (at : ℕ) → length l < at + 4 → terms (drop at l) ≡ []
-terms_end l at h = terms_short (drop at l) (simp length-drop (omega arith))
 
 -- how many terms bytes stand for
 pub terms_length : (l : List ℕ) → length (terms l) ≡ length l / 4

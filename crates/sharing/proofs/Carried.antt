@@ -1,6 +1,5 @@
 -- A value carried through bijections: h moves sharings, g the values that they share. Over plain functions of numbers below N and M.
--- Where h is correct for a permutation g, uniform, injective and counted as in document 003 are the same, and what is counted once after h is counted
--- once before it.
+-- Where h is correct for a permutation g, uniform, injective and counted as in document 003 are the same.
 -- Assumes nothing.
 use mathlib.Core.Path.{◌≡◌, refl, sym, ap, ◌∙◌}
 use mathlib.Core.Bool.{Bool, true, ◌&&◌}
@@ -9,9 +8,10 @@ use native.Mathlib.Omega.{arith}
 use lib.Dec.{eqb}
 use borrow.Author.Tests.{eqb-true, eq-eqb}
 use Rattle.finite.specs.Tests.{count}
-use Rattle.finite.proofs.Testing.{bool_ext, and_intro, and_right}
+use Rattle.finite.proofs.Testing.{bool_ext}
+use Rattle.std.proofs.lemmas.Bool.{and_from, and_parts}
 use Rattle.finite.specs.Maps.{Injective}
-use Rattle.finite.proofs.Counting.{count_congr, count_mono, count_one, count_some, count_unique, count_renamed, pigeonhole, onto, onto_once}
+use Rattle.finite.proofs.Counting.{count_congr, count_mono, count_one, count_some, count_unique, pigeonhole, onto, onto_once}
 use Rattle.sharing.specs.Stages.{ExactlyOne}
 
 -- ---- exactly one, and the count 1
@@ -59,15 +59,15 @@ even→counted N M sum h g sum_lt into g_into g_inj u τ l =
         omega (
           arith,
           u x.0 x.1 y ly (sym x.2),
-          count_mono N (λ σ. eqb (sum σ) x.0 && eqb (h σ) y) (λ σ. eqb (h σ) y) (λ σ k. and_right (eqb (sum σ) x.0) (eqb (h σ) y)),
+          count_mono N (λ σ. eqb (sum σ) x.0 && eqb (h σ) y) (λ σ. eqb (h σ) y) (λ σ k. λ e. (and_parts (eqb (sum σ) x.0) (eqb (h σ) y) e).1),
         )
 
 module _ (N M : ℕ) (sum h g : ℕ → ℕ) (sum_lt : (σ : ℕ) → sum σ < M) (c : Carries N M sum h g) where
   pub injective→even : Injective N h → Even N M sum h g
   injective→even inj x lx τ lτ e =
       count_congr N (λ σ. eqb (sum σ) x && eqb (h σ) τ) (λ σ. eqb (h σ) τ)
-      (λ σ l. bool_ext (eqb (sum σ) x && eqb (h σ) τ) (eqb (h σ) τ) (and_right (eqb (sum σ) x) (eqb (h σ) τ))
-      (λ t. and_intro
+      (λ σ l. bool_ext (eqb (sum σ) x && eqb (h σ) τ) (eqb (h σ) τ) (λ e. (and_parts (eqb (sum σ) x) (eqb (h σ) τ) e).1)
+      (λ t. and_from _ _
       (eq-eqb (sum σ) x (c.g_inj (sum σ) x (sum_lt σ) lx (sym (c.sums σ l) ∙ ap sum (eqb-true (h σ) τ t) ∙ e)))
       t))
       ∙ pigeonhole N h inj c.into τ lτ
@@ -77,8 +77,8 @@ module _ (N M : ℕ) (sum h g : ℕ → ℕ) (sum_lt : (σ : ℕ) → sum σ < M
       let ex : sum a ≡ sum b = c.g_inj (sum a) (sum b) (sum_lt a) (sum_lt b) (sym (c.sums a la) ∙ ap sum e ∙ c.sums b lb) in
       count_unique N (λ σ. eqb (sum σ) (sum a) && eqb (h σ) (h a)) (u (sum a) (sum_lt a) (h a) (c.into a la) (c.sums a la))
       a b la lb
-      (and_intro (eq-eqb (sum a) (sum a) refl) (eq-eqb (h a) (h a) refl))
-      (and_intro (eq-eqb (sum b) (sum a) (sym ex)) (eq-eqb (h b) (h a) (sym e)))
+      (and_from _ _ (eq-eqb (sum a) (sum a) refl) (eq-eqb (h a) (h a) refl))
+      (and_from _ _ (eq-eqb (sum b) (sum a) (sym ex)) (eq-eqb (h b) (h a) (sym e)))
 
   pub counted→even : Counted N M sum h g → Even N M sum h g
   counted→even k =
@@ -86,29 +86,3 @@ module _ (N M : ℕ) (sum h g : ℕ → ℕ) (sum_lt : (σ : ℕ) → sum σ < M
       (λ a b la lb e. count_unique N (λ σ. eqb (h σ) (h a))
       (k (h a) (c.into a la) ∙ pigeonhole M g c.g_inj c.g_into (sum (h a)) (sum_lt (h a)))
       a b la lb (eq-eqb (h a) (h a) refl) (eq-eqb (h b) (h a) (sym e)))
-
-  -- a test of what h gives passes as often among the numbers with the sum x as the test itself among those with the sum g x
-  pub count_carried : Injective N h → (p : ℕ → Bool) (x : ℕ) → x < M
-      → count N (λ σ. eqb (sum σ) x && p (h σ)) ≡ count N (λ τ. eqb (sum τ) (g x) && p τ)
-  count_carried inj p x lx =
-      count_congr N (λ σ. eqb (sum σ) x && p (h σ)) (λ σ. eqb (sum (h σ)) (g x) && p (h σ))
-      (λ σ l. ap (λ (b : Bool). b && p (h σ))
-      (bool_ext (eqb (sum σ) x) (eqb (sum (h σ)) (g x))
-      (λ t. eq-eqb (sum (h σ)) (g x) (c.sums σ l ∙ ap g (eqb-true (sum σ) x t)))
-      (λ t. eq-eqb (sum σ) x (c.g_inj (sum σ) x (sum_lt σ) lx (sym (c.sums σ l) ∙ eqb-true (sum (h σ)) (g x) t)))))
-      ∙ count_renamed N h inj c.into (λ τ. eqb (sum τ) (g x) && p τ)
-
--- ---- nothing done, and one thing after another
-
-pub carries_none : (N M : ℕ) (sum : ℕ → ℕ) → Carries N M sum (λ σ. σ) (λ x. x)
-carries_none N M sum = record { into = λ σ l. l; sums = λ σ l. refl; g_into = λ x l. l; g_inj = λ i k li lk e. e }
-
-pub carries_then : (N M : ℕ) (sum h g h' g' : ℕ → ℕ) → Carries N M sum h g → Carries N M sum h' g'
-    → Carries N M sum (λ σ. h' (h σ)) (λ x. g' (g x))
-carries_then N M sum h g h' g' c c' =
-    record {
-      into = λ σ l. c'.into (h σ) (c.into σ l);
-      sums = λ σ l. c'.sums (h σ) (c.into σ l) ∙ ap g' (c.sums σ l);
-      g_into = λ x l. c'.g_into (g x) (c.g_into x l);
-      g_inj = λ i k li lk e. c.g_inj i k li lk (c'.g_inj (g i) (g k) (c.g_into i li) (c.g_into k lk) e);
-    }

@@ -11,8 +11,9 @@ use lib.Pow.{pow_pos, high_ones}
 use lib.Bits.{bit_and, and_high}
 use lib.ListN.{get_or}
 use Rattle.finite.specs.Tests.{any}
-use Rattle.anf.specs.Terms.{TermList, names, clear}
-use Rattle.finite.proofs.Testing.{bool_ext, any_some, any_none, true_or_false}
+use Rattle.anf.specs.Terms.{IsTermList, names, clear}
+use Rattle.finite.proofs.Testing.{bool_ext, any_some, any_none}
+use Rattle.std.proofs.lemmas.Bool.{cases_Bool}
 use Rattle.anf.proofs.Terms.{clear_add, independent, names_depends}
 use Rattle.records.specs.Design.{Stage}
 use Rattle.sharing.specs.Sharing.{share, setting, put_share, with_share}
@@ -43,7 +44,7 @@ module _ (w j : ℕ) where
   pub setting_clear : (x y : ℕ) → setting w j x ≡ setting w j y → clear x (variables w j) ≡ clear y (variables w j)
   setting_clear x y e = clear_variables x ∙ ap (put_share w j 0) e ∙ sym (clear_variables y)
 
-module _ (w s : ℕ) (g : Stage) (j e : ℕ) (hj : j < s) (fits : (l : ℕ) → l < w * s → TermList (w * s) (get_or g.lists l [])) where
+module _ (w s : ℕ) (g : Stage) (j e : ℕ) (hj : j < s) (fits : (l : ℕ) → l < w * s → IsTermList (w * s) (get_or g.lists l [])) where
   -- list b of component j names a variable of share e
   abbrev names_it : ℕ → Bool
   names_it b = names (variables w e) (get_or g.lists (w * j + b) [])
@@ -58,7 +59,7 @@ module _ (w s : ℕ) (g : Stage) (j e : ℕ) (hj : j < s) (fits : (l : ℕ) → 
           (λ f. absurd (r.4 (component_eq (with_share w e r.2 r.0) r.0 w j g.lists
           (λ b l. independent (variables w e) (get_or g.lists (w * j + b) []) (any_none w names_it f b l) (with_share w e r.2 r.0) r.0
           (setting_clear w e (with_share w e r.2 r.0) r.0 (setting_with w e r.2 r.0 r.3))))))
-          (true_or_false (any w names_it))
+          (cases_Bool (any w names_it))
 
       from : any w names_it ≡ true → depends_on w s g j e ≡ true
       from t =

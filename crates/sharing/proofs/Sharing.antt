@@ -4,8 +4,8 @@ use mathlib.Core.Path.{◌≡◌, refl, sym, ap, ap₂, ◌∙◌, subst}
 use mathlib.Core.Logic.{◌≢◌}
 use mathlib.Core.Bool.{◌&&◌}
 use Prim.Native.Nat.{ℕ, zero, suc, ◌+◌, ◌-◌, ◌*◌, ◌/◌, ◌%◌, ◌^◌, ◌≤◌, ◌<◌}
-use native.Mathlib.Nat.{le_of_suc-le-suc, not-suc-le-zero, add-zero, add_comm, add_assoc, mul-zero, mul-one, mul-suc, mul_comm, mul_assoc, mul-add, add-mul}
-use native.Mathlib.Nat.{add-sub_of_le, mul-le-mul_left, div-one, div-add-mod', div-div-eq-div-mul, div-lt_iff_lt-mul, mod-one, mod-lt, mod-eq_of_lt}
+use native.Mathlib.Nat.{add-zero, add_comm, add_assoc, mul-zero, mul-one, mul-suc, mul_comm, mul_assoc, mul-add, add-mul, add-sub_of_le, mul-le-mul_left}
+use native.Mathlib.Nat.{le_of_suc-le-suc, not-suc-le-zero, div-one, div-add-mod', div-div-eq-div-mul, div-lt_iff_lt-mul, mod-one, mod-lt, mod-eq_of_lt}
 use native.Mathlib.Decide.{dec_lt}
 use native.Mathlib.Omega.{arith}
 use lib.Arith.{digits_lt, digits_div, digits_mod, mod-mul, lt-one}
@@ -17,9 +17,10 @@ use borrow.Author.Tests.{eqb-true, eq-eqb}
 use Rattle.finite.specs.Tests.{count}
 use Rattle.finite.specs.Sums.{xor_below}
 use Rattle.finite.specs.Sets.{has}
-use Rattle.finite.proofs.Testing.{and_intro, and_left, and_right}
+use Rattle.std.proofs.lemmas.Bool.{and_from, and_parts}
 use Rattle.finite.proofs.Counting.{count_one}
-use Rattle.finite.proofs.Xor.{xor_assoc, xor_left_comm}
+use Rattle.std.specs.Int.Bits.{xor_assoc}
+use Rattle.finite.proofs.Xor.{xor_left_comm}
 use Rattle.finite.proofs.Sums.{xor_below_ext, xor_below_first, xor_below_lt}
 use Rattle.finite.proofs.Elements.{has_congr}
 use Rattle.sharing.specs.Sharing.{share, sum, setting, put_share, with_share}
@@ -227,12 +228,12 @@ one_sharing w s j x q h hx hq =
     let k = put_share w j v q in
     let dk = setting_put w j v q hv in
     count_one (2 ^ (w * suc s)) (λ σ. eqb (sum w (suc s) σ) x && eqb (setting w j σ) q) k (put_lt w s j v q h hv hq)
-    (and_intro
+    (and_from _ _
     (eq-eqb _ _ (sum_setting w s j k h ∙ ap₂ (λ (a b : ℕ). bit_xor a (sum w s b)) (share_put w j v q hv) dk ∙ xor_back x r))
     (eq-eqb _ _ dk))
     (λ σ l e.
-    let eσ = eqb-true (sum w (suc s) σ) x (and_left (eqb (sum w (suc s) σ) x) (eqb (setting w j σ) q) e) in
-    let dσ = eqb-true (setting w j σ) q (and_right (eqb (sum w (suc s) σ) x) (eqb (setting w j σ) q) e) in
+    let eσ = eqb-true (sum w (suc s) σ) x (and_parts (eqb (sum w (suc s) σ) x) (eqb (setting w j σ) q) e).0 in
+    let dσ = eqb-true (setting w j σ) q (and_parts (eqb (sum w (suc s) σ) x) (eqb (setting w j σ) q) e).1 in
     let vσ : share w j σ ≡ v =
     sym (xor_back (share w j σ) r) ∙ ap (λ (a : ℕ). bit_xor a r) (ap (λ (b : ℕ). bit_xor (share w j σ) (sum w s b)) (sym dσ) ∙ sym (sum_setting w s j σ h) ∙ eσ) in
     sym (put_share_setting w j σ) ∙ ap₂ (put_share w j) vσ dσ)

@@ -8,11 +8,10 @@ use Prim.Native.Nat.{ℕ, zero, suc, ◌*◌, ◌^◌, ◌<◌, suc-le-suc}
 use native.Mathlib.Omega.{arith}
 use lib.ListN.{length, get_or}
 use Rattle.finite.specs.Maps.{Injective, repeats}
-use Rattle.finite.proofs.Testing.{not_true_false}
+use Rattle.std.proofs.lemmas.Bool.{false_from_ne_true}
 use Rattle.finite.proofs.Maps.{repeats_clash, repeats→injective}
-use Rattle.anf.specs.Tables.{entry, Permutation}
+use Rattle.anf.specs.Tables.{entry, Permutation, TableFits}
 use Rattle.records.specs.Design.{Stage, no_stage}
-use Rattle.anf.specs.Tables.{TableFits}
 use Rattle.sharing.specs.Sharing.{share, sum}
 use Rattle.sharing.specs.Stages.{output, component, Correct, Uniform, CountedUniform, uniform}
 use Rattle.sharing.specs.Chain.{handed}
@@ -68,9 +67,6 @@ module _ (w s : ℕ) (g : Stage) (table : TableFits w g.table) (count : length g
   stage_into : (σ : ℕ) → σ < 2 ^ (w * s) → output g.lists σ < 2 ^ (w * s)
   stage_into σ l = stage_output_lt w s g count σ
 
-  pub stage_carries : Carries (2 ^ (w * s)) (2 ^ w) (sum w s) (output g.lists) (entry g.table)
-  stage_carries = carries w s (output g.lists) g.table stage_into table perm right
-
   pub stage_uniform→injective : Uniform w s (output g.lists) g.table → Injective (2 ^ (w * s)) (output g.lists)
   stage_uniform→injective = uniform→injective w s (output g.lists) g.table stage_into table perm right
 
@@ -85,5 +81,5 @@ module _ (w s : ℕ) (g : Stage) (table : TableFits w g.table) (count : length g
   stage_uniform_repeats = go (repeats (2 ^ (w * s)) (output g.lists)) refl
     where
       go : (b : Bool) → repeats (2 ^ (w * s)) (output g.lists) ≡ b → uniform w s g ≡ not b
-      go true e = not_true_false _ (λ u. repeats_clash (2 ^ (w * s)) (output g.lists) e (stage_uniform→injective ((uniform↔ w s g).0 u)))
+      go true e = false_from_ne_true _ (λ u. repeats_clash (2 ^ (w * s)) (output g.lists) e (stage_uniform→injective ((uniform↔ w s g).0 u)))
       go false e = (uniform↔ w s g).1 (stage_injective→uniform (repeats→injective (2 ^ (w * s)) (output g.lists) e))

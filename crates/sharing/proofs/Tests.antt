@@ -8,12 +8,12 @@ use Prim.Native.Nat.{ℕ, ◌*◌, ◌^◌, ◌<◌}
 use lib.Dec.{eqb}
 use borrow.Author.Tests.{eqb-true, eqb-false, eq-eqb, ne_eqb, not-true, not-false}
 use Rattle.finite.specs.Tests.{any}
-use Rattle.finite.proofs.Testing.{all_at, all_intro, all_fails, all_not, any_at, any_some, any_none, none_any, implies_at, implies_intro, and_intro, and_left, and_right}
+use Rattle.finite.proofs.Testing.{all_at, all_intro, all_fails, all_not, any_at, any_some, any_none, none_any, implies_at, implies_intro}
+use Rattle.std.proofs.lemmas.Bool.{and_from, and_parts}
 use Rattle.anf.specs.Tables.{entry}
 use Rattle.records.specs.Design.{Stage}
 use Rattle.sharing.specs.Sharing.{sum, with_share}
-use Rattle.sharing.specs.Stages.{output, component, Correct, Ignores, IgnoresSome, NonComplete, Uniform}
-use Rattle.sharing.specs.Stages.{correct, depends_on, depends_on_all, non_complete, sharings_to, uniform}
+use Rattle.sharing.specs.Stages.{output, component, Correct, Ignores, IgnoresSome, NonComplete, Uniform, correct, depends_on, depends_on_all, non_complete, sharings_to, uniform}
 use Rattle.sharing.proofs.Sharing.{sum_shares}
 use Rattle.sharing.proofs.Carried.{Even, count→exactly, exactly→count}
 
@@ -22,12 +22,12 @@ use Rattle.sharing.proofs.Carried.{Even, count→exactly, exactly→count}
 module _ (w s : ℕ) (out : ℕ → ℕ) (g : List ℕ) where
   both : (x τ σ : ℕ) → (eqb (sum w s σ) x && eqb (out σ) τ) ≡ true → (sum w s σ ≡ x) × (out σ ≡ τ)
   both x τ σ e = (
-    eqb-true _ _ (and_left (eqb (sum w s σ) x) (eqb (out σ) τ) e),
-    eqb-true _ _ (and_right (eqb (sum w s σ) x) (eqb (out σ) τ) e),
+    eqb-true _ _ (and_parts (eqb (sum w s σ) x) (eqb (out σ) τ) e).0,
+    eqb-true _ _ (and_parts (eqb (sum w s σ) x) (eqb (out σ) τ) e).1,
   )
 
   of_both : (x τ σ : ℕ) → (sum w s σ ≡ x) × (out σ ≡ τ) → (eqb (sum w s σ) x && eqb (out σ) τ) ≡ true
-  of_both x τ σ e = and_intro (eq-eqb _ _ e.0) (eq-eqb _ _ e.1)
+  of_both x τ σ e = and_from _ _ (eq-eqb _ _ e.0) (eq-eqb _ _ e.1)
 
   pub even→uniform : Even (2 ^ (w * s)) (2 ^ w) (sum w s) out (entry g) → Uniform w s out g
   even→uniform e x lx τ lτ h = count→exactly (2 ^ (w * s)) _ _ (both x τ) (of_both x τ) (e x lx τ lτ h)

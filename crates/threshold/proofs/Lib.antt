@@ -1,6 +1,6 @@
 -- Laws of the stages' outputs, and of running.
 pub mod Packing
 pub mod Running
-pub mod Evaluating
-pub mod Together
-pub mod Sending
+pub mod EngineValues
+pub mod BlockOutputs
+pub mod ChainRuns

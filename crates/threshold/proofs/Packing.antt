@@ -3,20 +3,18 @@ use mathlib.Core.Path.{◌≡◌, refl, sym, ap, ◌∙◌, subst}
 use mathlib.Core.Bool.{true}
 use mathlib.Core.List.{List, ◌++◌}
 use Prim.Native.Nat.{ℕ, zero, suc, ◌+◌, ◌-◌, ◌*◌, ◌^◌, ◌≤◌, ◌<◌}
-use native.Mathlib.Nat.{not-suc-le-zero, mul_comm, add_comm, mul-le-mul_left, le_refl, le_step, lt_of_lt_of_le}
-use native.Mathlib.Numerals.{add-one}
-use native.Mathlib.Decide.{dec_lt, ℕ_discrete}
+use native.Mathlib.Nat.{mul-le-mul_left, lt_of_lt_of_le}
+use native.Mathlib.Decide.{dec_lt}
 use native.Mathlib.Omega.{arith}
-use lib.Arith.{digits_lt}
 use lib.Pow.{pow_mono}
 use lib.Bits.{bit_xor, xor_zero_r}
 use lib.Dec.{eqb, ltb}
-use lib.ListN.{length, get_or, set, drop}
-use lib.Seq.{ext_get_or, get_or-set_same, get_or-set_other}
+use lib.ListN.{length, get_or, drop}
+use lib.Seq.{ext_get_or}
 use borrow.Author.Tests.{eqb-true, ltb-true, lt-ltb, le-ltb}
-use Rattle.finite.specs.Tests.{pick, total, tabulate}
+use Rattle.finite.specs.Tests.{pick, tabulate}
 use Rattle.finite.specs.Sums.{xor_below}
-use Rattle.finite.proofs.Testing.{below, all_at, all_intro, pick_true, pick_false, tabulate_at, tabulate_length}
+use Rattle.finite.proofs.Testing.{all_at, all_intro, pick_true, pick_false, tabulate_at, tabulate_length}
 use Rattle.finite.proofs.Sums.{xor_below_none, xor_below_add, xor_below_ext}
 use Rattle.design.specs.Limits.{greatest_shares, greatest_share_bits}
 use Rattle.sharing.specs.Sharing.{share, sum, packed}

@@ -1,5 +1,5 @@
 // Running stages and chains on five shares, the greatest number of them.
-ghost use Rattle.std.specs.Prelude.{◌≡◌, true, ◌*◌, ◌^◌, ◌≤◌, ◌<◌};
+ghost use Rattle.std.specs.Prelude.{◌≡◌, true, ◌*◌, ◌^◌, ◌<◌};
 ghost use Rattle.records.specs.Design.{stage_of};
 ghost use Rattle.design.specs.Reading.{means};
 ghost use Rattle.design.specs.Inside.Held.{design_of};

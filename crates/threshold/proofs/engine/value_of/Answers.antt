@@ -1,4 +1,4 @@
-use Rattle.threshold.proofs.Evaluating.{value_more, value_all}
+use Rattle.threshold.proofs.EngineValues.{value_more, value_all}
 use Rattle.threshold.proofs.engine.value_of.Goals as goal
 
 pub loop-term-preserved : goal.loop-term-preserved

@@ -20,7 +20,7 @@ use Rattle.anf.specs.NormalForm.{subset_sum}
 use Rattle.anf.specs.Tables.{entry}
 use Rattle.anf.specs.Transform.{transformed}
 use Rattle.anf.specs.Inside.Words.{half_sums, lower_added, over_variable, over_variables}
-use Rattle.anf.proofs.Numbering.{numbers_length, numbers_at, numbers_set, numbers_take, numbers_drop, numbers_put}
+use Rattle.anf.proofs.WordNumbers.{numbers_length, numbers_at, numbers_set, numbers_take, numbers_drop, numbers_put}
 use Rattle.anf.proofs.SubsetSums.{subset_sum_ext, subset_sum_zero, subset_sum_low, subset_sum_top}
 
 -- ---- one variable, and all of them: r is a place in half a block, and block a begins at 2 a times 2^k

@@ -14,14 +14,13 @@ use lib.Pow.{pow_pos}
 use lib.Dec.{eqb}
 use lib.ListN.{length, get_or, set, drop, replicate, length-set, drop_of_length-le}
 use lib.Seq.{drop-cons}
-use Rattle.std.specs.Int.Bits.{xor_shifted}
+use Rattle.std.specs.Int.Bits.{xor_shifted, xor_assoc}
 use Rattle.std.proofs.Math.Seq.{get_or-set_same, get_or-set_other}
 use Rattle.std.proofs.lemmas.List.{get_or-replicate}
 use borrow.Author.Tests.{eqb-true, eqb-false, eq-eqb, ne_eqb}
 use Rattle.finite.specs.Tests.{pick, tabulate}
 use Rattle.finite.specs.Sets.{subset}
 use Rattle.finite.proofs.Testing.{pick_true, pick_false, tabulate_length, tabulate_at, tabulate_of, tabulate_congr}
-use Rattle.finite.proofs.Xor.{xor_assoc}
 use Rattle.finite.proofs.Subsets.{eq_subset, ne_subset}
 use Rattle.finite.proofs.Sums.{xor_below_one, pick_zero, pick_both, pick_swap}
 use Rattle.anf.specs.NormalForm.{subset_sum}
@@ -30,7 +29,7 @@ use Rattle.anf.specs.Transform.{transformed}
 use Rattle.anf.proofs.SubsetSums.{subset_sum_ext, subset_sum_xor, subset_sum_none}
 use Rattle.anf.proofs.Terms.{value_at_lt}
 use Rattle.sharing.specs.Stages.{output}
-use Rattle.threshold.specs.Inside.Blocks.{outputs_from, term_added, terms_added, coefficient, coefficients, Ahead}
+use Rattle.threshold.specs.Inside.Blocks.{outputs_from, term_added, terms_added, coefficient, coefficients}
 use Rattle.threshold.specs.Inside.Outputs.{outputs_left}
 
 -- ---- what one term adds
@@ -212,13 +211,7 @@ module _ (ls : List (List ℕ)) (x : ℕ) where
       ∙ coefficients_sum (x / 64) u lu 0 ls
       ∙ (let e : 64 * (x / 64) + u ≡ x + u = omega arith in rw e (omega arith)))
 
-  -- ---- `Outputs`: the words of the block are there, or made
-
-  pub still_there : (words : List ℕ) → Ahead ls x words → (x % 64 ≡ 0 → ⊥) → words ≡ outputs_from ls (x / 64 * 64)
-  still_there words a n = a.kept n
-
-  pub filled_there : (words : List ℕ) → words ≡ outputs_from ls x → x % 64 ≡ 0 → words ≡ outputs_from ls (x / 64 * 64)
-  filled_there words e z = let q : x / 64 * 64 ≡ x = omega arith in rw q e
+  -- ---- `Outputs`: the words of the block give each of its outputs
 
   module _ (words : List ℕ) (e : words ≡ outputs_from ls (x / 64 * 64)) where
     pub block_output : get_or words (x % 64) 0 ≡ output ls x
@@ -226,10 +219,6 @@ module _ (ls : List (List ℕ)) (x : ℕ) where
     block_output =
         ap (λ (q : List ℕ). get_or q (x % 64) 0) e ∙ tabulate_at 64 (λ v. output ls (x / 64 * 64 + v)) (x % 64) 0 (omega arith)
         ∙ ap (output ls) (omega arith)
-
-    pub block_ahead : Ahead ls (x + 1) words
-    unfolding outputs_from
-    block_ahead = record { kept = λ n. let q : (x + 1) / 64 ≡ x / 64 = omega arith in rw q e }
 
 -- ---- what is left of the outputs
 

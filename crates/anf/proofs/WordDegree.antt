@@ -1,7 +1,7 @@
--- The loop of `words_degree`: d is the degree that the first u words give. Assumes nothing.
-use mathlib.Core.Path.{◌≡◌, refl, sym, ap₂, ◌∙◌}
+-- The degree that coefficient words give: it is the degree of the table, and what the loop of `words_degree` finds. Assumes nothing.
+use mathlib.Core.Path.{◌≡◌, refl, sym, ap, ap₂, ◌∙◌}
 use mathlib.Core.List.{List}
-use Prim.Native.Nat.{ℕ, ◌+◌, ◌≤◌, max}
+use Prim.Native.Nat.{ℕ, ◌+◌, ◌^◌, ◌≤◌, ◌<◌, max}
 use native.Mathlib.Omega.{arith}
 use lib.Count.{ones}
 use lib.Dec.{eqb}
@@ -11,9 +11,21 @@ use Rattle.std.specs.Ordering.{ord_max, nat_cmp}
 use Rattle.std.proofs.lemmas.Bool.Decides.{nat_tests}
 use Rattle.finite.specs.Tests.{pick}
 use Rattle.finite.proofs.Testing.{pick_true, pick_false}
-use Rattle.anf.specs.NormalForm.{largest}
+use Rattle.anf.specs.NormalForm.{largest, subset_sum, degree}
 use Rattle.anf.specs.Inside.Words.{words_degree}
-use Rattle.anf.proofs.Degree.{largest_more}
+use Rattle.anf.proofs.Degree.{largest_more, largest_congr}
+
+-- ---- the degree that coefficient words give is that of the table
+
+pub words_degree_lem : (m : ℕ) (f : ℕ → ℕ) (words : List ℕ) → length words ≡ 2 ^ m → ((u : ℕ) → u < 2 ^ m → get_or words u 0 ≡ subset_sum m f u)
+    → words_degree words ≡ degree m f
+unfolding words_degree degree
+words_degree_lem m f words e h =
+    rw e
+    (largest_congr (2 ^ m) (λ u. pick (eqb (get_or words u 0) 0) 0 (ones u)) (λ u. pick (eqb (subset_sum m f u) 0) 0 (ones u))
+    (λ u l. ap (λ (w : ℕ). pick (eqb w 0) 0 (ones u)) (h u l)))
+
+-- ---- the loop: d is the degree that the first u words give
 
 max_is : (a b : ℕ) → ord_max nat_cmp a b ≡ max a b
 max_is a b = grind (arith, nat_tests)

@@ -12,11 +12,12 @@ use lib.ListN.{length, length-append}
 use Rattle.finite.specs.Tests.{pick, bit, count, total}
 use Rattle.finite.specs.Sums.{xor_below}
 use Rattle.finite.specs.Sets.{subset}
-use Rattle.finite.proofs.Testing.{or_left, or_none, ltb_suc}
+use Rattle.std.proofs.lemmas.Bool.{or_left, or_from}
+use Rattle.finite.proofs.Testing.{ltb_suc}
 use Rattle.finite.proofs.Xor.{bit_cases}
 use Rattle.finite.proofs.Sums.{xor_below_ext}
 use Rattle.anf.specs.NormalForm.{subset_sum}
-use Rattle.anf.specs.Terms.{value_at, before, TermList, passing}
+use Rattle.anf.specs.Terms.{value_at, before, IsTermList, passing}
 use Rattle.anf.proofs.SubsetSums.{subset_sum_twice, subset_sum_bit}
 use Rattle.anf.proofs.Order.{Rising, first_append, rising_terms, member, member_append}
 use Rattle.anf.proofs.Terms.{rising_value}
@@ -52,7 +53,7 @@ one_member n p u = go (eqb u n) refl (p n) refl
     go : (c : Bool) → eqb u n ≡ c → (t : Bool) → p n ≡ t → member u (pick t (n ∷ []) []) ≡ (c && p u)
     go true e true f = or_left (eqb u n) false e ∙ sym (ap p (eqb-true u n e) ∙ f)
     go true e false f = sym (ap p (eqb-true u n e) ∙ f)
-    go false e true f = or_none e refl
+    go false e true f = or_from _ _ e refl
     go false e false f = refl
 
 -- it has those numbers
@@ -63,7 +64,7 @@ passing_member (suc n) p u =
     member_append u (passing n p) (pick (p n) (n ∷ []) []) ∙ ap₂ ◌||◌ (passing_member n p u) (one_member n p u)
     ∙ sym (and-or_distrib_right (ltb u n) (eqb u n) (p u)) ∙ ap (λ (x : Bool). x && p u) (sym (ltb_suc u n))
 
-pub passing_terms : (n : ℕ) (p : ℕ → Bool) → TermList n (passing (2 ^ n) p)
+pub passing_terms : (n : ℕ) (p : ℕ → Bool) → IsTermList n (passing (2 ^ n) p)
 passing_terms n p = rising_terms n (passing (2 ^ n) p) (passing_rising (2 ^ n) p)
 
 pub passing_congr : (n : ℕ) (p q : ℕ → Bool) → ((i : ℕ) → i < n → p i ≡ q i) → passing n p ≡ passing n q

@@ -10,14 +10,16 @@ use lib.ListN.{length, get_or, take, drop}
 use lib.Seq.{ext_get_or, take_at}
 use borrow.Author.Tests.{lt-ltb, le-ltb, eq-eqb, ne_eqb, ltb-false, eqb-true, not-false}
 use Rattle.finite.specs.Faults.{first_fault}
-use Rattle.finite.proofs.Testing.{or_false, tabulate_length, tabulate_at, or_none, or_left, or_right}
+use Rattle.std.proofs.lemmas.Bool.{or_parts, or_from, or_left, or_right}
+use Rattle.finite.proofs.Testing.{tabulate_length, tabulate_at}
 use Rattle.finite.proofs.Faults.{fault_here, fault_past, no_fault, fault_none}
 use Rattle.anf.specs.NormalForm.{subset_sum, degree}
 use Rattle.anf.specs.Tables.{entries_below}
 use Rattle.anf.specs.Inside.Words.{words_degree}
 use Rattle.anf.specs.Transform.{greatest_width, transform_reason, transform_after, transformed}
 use Rattle.anf.proofs.SubsetSums.{subset_sum_twice, subset_sum_ext, subset_sum_lt}
-use Rattle.anf.proofs.Tables.{entries_at, entries_intro, words_degree_lem}
+use Rattle.anf.proofs.Tables.{entries_at, entries_intro}
+use Rattle.anf.proofs.WordDegree.{words_degree_lem}
 
 -- the reason answered, and the output afterwards
 pub record Answered (m : ℕ) (t out : List ℕ) (r : ℕ) (after : List ℕ) : Type 0 where
@@ -44,7 +46,7 @@ module _ (m : ℕ) (t out : List ℕ) where
   module _ (a : 1 ≤ m) where
     module _ (b : m ≤ greatest_width) (n : ℕ) (e : n ≡ 2 ^ m) where
       width : (ltb m 1 || ltb greatest_width m) ≡ false
-      width = or_none (le-ltb _ _ a) (le-ltb _ _ b)
+      width = or_from _ _ (le-ltb _ _ a) (le-ltb _ _ b)
 
       pub uneven : (length t ≡ n → ⊥) → Answered m t out 3 out
       uneven f =
@@ -92,7 +94,7 @@ reason_input m input room e =
     let q = no_fault (not (eqb (length input) (2 ^ m))) 3 _ (omega arith) p.1 in
     let r = no_fault (not (entries_below input (2 ^ m))) 5 _ (omega arith) q.1 in
     let s = no_fault (ltb room (2 ^ m)) 17 [] (omega arith) r.1 in
-    let w = or_false (ltb m 1) (ltb greatest_width m) p.0 in
+    let w = or_parts (ltb m 1) (ltb greatest_width m) p.0 in
     record {
       least = ltb-false m 1 w.0;
       most = ltb-false greatest_width m w.1;

@@ -13,7 +13,8 @@ use Prim.Native.Nat.{ℕ, ◌+◌, ◌-◌, ◌*◌, ◌/◌, ◌^◌, ◌≤◌
 use native.Mathlib.Nat.{lt_of_lt_of_le, mul-le-mul_left, mul-suc}
 use native.Mathlib.Omega.{arith}
 use lib.Bits.{bit_and, bit_or, bit_xor, xor_zero_r, or_add_and}
-use Rattle.finite.proofs.Xor.{xor_and, xor_assoc}
+use Rattle.finite.proofs.Xor.{xor_and}
+use Rattle.std.specs.Int.Bits.{xor_assoc}
 use lib.Pow.{pow_mono, pow_pos}
 use lib.ListN.{length, get_or, take, drop, length-drop}
 use lib.Seq.{length-take-le}
