@@ -236,7 +236,7 @@ pub const PLACEMENT_4: [u8; 14] = [4, 1, 4, 2, 2, 1, 4, 3, 3, 1, 3, 2, 2, 1];
 pub const PLACEMENT_5: [u8; 30] = [5, 1, 5, 2, 2, 1, 5, 3, 3, 1, 3, 2, 2, 1, 5, 4, 4, 1, 4, 2, 2, 1, 4, 3, 3, 1, 3, 2, 2, 1];
 
 /// The published placement for s shares: a product goes to the lowest component c outside its set of shares for which c + 1 (after s comes
-/// 1) is in the set. With it producing gives the direct sharing of the papers. Empty where s is none of 3, 4 and 5: producing then refuses
+/// 1) is in the set (RULES 9.5). Empty where s is none of 3, 4 and 5: producing then refuses
 /// with [`Reason::LimitBroken`], whatever the placement is.
 pub fn published_placement(s: usize) -> &'static [u8] {
     match s {
