@@ -2,8 +2,8 @@
 """Brings the names of this repository's own definitions and lemmas to the spelling of today's Rattle: words in snake case, with an underscore
 between them, a prime as an apostrophe. Types, modules, functions of src/ and what the library declares keep their names.
 
-usage: python3 tools/snake_names.py [FOLDER]      rewrites specs/, proofs/, the clauses of src/, the must-fail edits and code spans of the documents
-       python3 tools/snake_names.py --list        prints the table of names that it would turn, and writes nothing
+usage: python3 docs/history/snake_names.py [FOLDER]      rewrites specs/, proofs/, the clauses of src/, the must-fail edits and code spans of the documents
+       python3 docs/history/snake_names.py --list        prints the table of names that it would turn, and writes nothing
 
 It runs once, right after the toolchain's own script for the port, on a tree of the older spelling. It stops where two names would fall together in one file.
 """
