@@ -19,8 +19,10 @@ use Rattle.finite.proofs.Faults.{fault_cases}
 use Rattle.anf.specs.Terms.{before}
 use Rattle.design.specs.Limits.{greatest_terms, broken, Head}
 use Rattle.records.specs.Bytes.{u16_at}
-use Rattle.design.specs.Reading.{Reading, refused, means, reason_of, place_of, last_of, head_of, kind_due, size_due, length_due, entry_fits, term_fits, previous, fault_at, meaning, place, walk, reading, body_faults}
-use Rattle.design.specs.Refused.{WithinLimits, LengthFits, TermFits, RecordStands, RecordFits, FitBefore, Reached, term_at, kind_at, RefusedFor, head_cut, kind_wrong, length_wrong, body_cut, limit_broken, entry_high, term_wrong, bytes_follow}
+use Rattle.design.specs.Reading.{Reading, refused, means, reason_of, place_of}
+use Rattle.design.specs.Reading.{last_of, head_of, kind_due, size_due, length_due, entry_fits, term_fits, previous, fault_at, meaning, place, walk, reading, body_faults}
+use Rattle.design.specs.Refused.{WithinLimits, LengthFits, TermFits, RecordStands, RecordFits, FitBefore, Reached, term_at, kind_at}
+use Rattle.design.specs.Refused.{RefusedFor, head_cut, kind_wrong, length_wrong, body_cut, limit_broken, entry_high, term_wrong, bytes_follow}
 use Rattle.design.proofs.Limits.{bounds, unbroken}
 use Rattle.design.proofs.Records.{body_fault, Framed, body_1, body_2, body_3, body_none, fault_framed, previous_more, entry_below, entry_not, body_4}
 use Rattle.design.proofs.Written.{list_size, read_means}
