@@ -130,9 +130,6 @@ module _ (ls : List (List ℕ)) (l₀ l : List ℕ) (i : ℕ) (r : MarkedTo (2 ^
     pub marked_none : None ≡ found (2 ^ length ls) (met_before (output ls))
     marked_none = found_none (2 ^ length ls) (met_before (output ls)) (rw z at r.once)
 
-  pub marked_last : drop (2 ^ length ls / 8) l ≡ drop (2 ^ length ls / 8) l₀
-  marked_last = r.rest
-
 -- ---- `first_met`: zeroed bytes mark nothing, and ls are the lists of a stage
 
 module _ (m s k : ℕ) (limits : broken m s k ≡ false) (ls : List (List ℕ)) (many : length ls ≡ m * s) where

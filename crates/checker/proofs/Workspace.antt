@@ -79,11 +79,5 @@ module _ (l₀ l : List ℕ) (e : l ≡ l₀) where
   pub same_zeroed : (n : ℕ) → zeroed n l₀ ≡ l₀ → zeroed n l ≡ l
   same_zeroed n h = ap (zeroed n) e ∙ h ∙ sym e
 
-  pub same_length : length l ≡ length l₀
-  same_length = ap length e
-
   pub same_through : (l₁ : List ℕ) → l₁ ≡ l → l₁ ≡ l₀
   same_through l₁ q = q ∙ e
-
-  pub same_length_through : (l₁ : List ℕ) → l₁ ≡ l → length l₁ ≡ length l₀
-  same_length_through l₁ q = ap length (q ∙ e)

@@ -14,7 +14,8 @@ use Rattle.anf.specs.Tables.{TableFits}
 use Rattle.design.specs.WellFormed.{ListFits, WellFormed}
 use Rattle.std.specs.List.{concat}
 use Rattle.records.specs.Records.{a_record}
-use Rattle.design.specs.Reading.{last_of, number_of, kind_due, size_due, length_due, entry_fits, previous, term_fits, fault_at, means, reading, walk, place, head_of, meaning, stage_at, table_at, list_at}
+use Rattle.design.specs.Reading.{last_of, number_of, kind_due, size_due, length_due, entry_fits, previous, term_fits, fault_at}
+use Rattle.design.specs.Reading.{means, reading, walk, place, head_of, meaning, stage_at, table_at, list_at}
 use Rattle.design.specs.Inside.Framing.{frame_fault}
 use Rattle.design.proofs.Flat.{head_for, stage_body, body_of, record_of, flat}
 use Rattle.design.proofs.Records.{body_fault, body_1, body_2, body_3, body_4, fault_body, entry_fits_lem, term_fits_lem}

@@ -14,7 +14,7 @@ use lib.Arith.{digits_lt, digits_mod, digits_div}
 use lib.Dec.{ltb, eqb}
 use Rattle.finite.specs.Tests.{pick}
 use Rattle.finite.proofs.Testing.{tabulate_at}
-use Rattle.design.specs.Limits.{greatest_width, greatest_shares, greatest_terms}
+use Rattle.design.specs.Limits.{greatest_terms}
 use Rattle.records.specs.Bytes.{u16_at}
 use Rattle.records.specs.Design.{Design, no_stage, stage_of, list_of}
 use Rattle.design.specs.Inside.Described.{Limits, Describes}
@@ -152,12 +152,6 @@ module _ (f : List ℕ) (l : Layout) (d : Describes f l) where
 
   pub limited : Bounds l.head.m l.head.s l.head.k
   limited = bounds _ _ _ limits
-
-  pub width_high : l.head.m ≤ greatest_width
-  width_high = limited.m_high
-
-  pub shares_high : l.head.s ≤ greatest_shares
-  shares_high = limited.s_high
 
   -- the box
   pub box_part : (from : ℕ) → from ≡ get_or l.starts 1 0 → Part f from (2 ^ l.head.m) (meaning f).box

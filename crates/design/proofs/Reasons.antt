@@ -19,11 +19,13 @@ use Rattle.finite.proofs.Faults.{fault_cases}
 use Rattle.anf.specs.Terms.{before}
 use Rattle.design.specs.Limits.{greatest_terms, broken, Head}
 use Rattle.records.specs.Bytes.{u16_at}
-use Rattle.design.specs.Reading.{Reading, refused, means, reason_of, place_of, last_of, head_of, kind_due, size_due, length_due, entry_fits, term_fits, previous, fault_at, meaning, place, walk, reading, body_faults}
-use Rattle.design.specs.Refused.{WithinLimits, LengthFits, TermFits, RecordStands, RecordFits, FitBefore, Reached, term_at, kind_at, RefusedFor, head_cut, kind_wrong, length_wrong, body_cut, limit_broken, entry_high, term_wrong, bytes_follow}
+use Rattle.design.specs.Reading.{refused, means}
+use Rattle.design.specs.Reading.{last_of, head_of, kind_due, size_due, length_due, entry_fits, term_fits, previous, fault_at, meaning, place, walk, reading, body_faults}
+use Rattle.design.specs.Refused.{WithinLimits, LengthFits, TermFits, RecordStands, RecordFits, FitBefore, Reached, term_at, kind_at}
+use Rattle.design.specs.Refused.{RefusedFor, head_cut, kind_wrong, length_wrong, body_cut, limit_broken, entry_high, term_wrong, bytes_follow}
 use Rattle.design.proofs.Limits.{bounds, unbroken}
 use Rattle.design.proofs.Records.{body_fault, Framed, body_1, body_2, body_3, body_none, fault_framed, previous_more, entry_below, entry_not, body_4}
-use Rattle.design.proofs.Written.{list_size, read_means}
+use Rattle.design.proofs.Written.{list_size}
 use Rattle.design.proofs.Walking.{place_next}
 
 -- ---- the tests, as propositions
@@ -269,18 +271,3 @@ reason_range f r p e = go r p (refused_for f r p e)
     go r p (entry_high i x b w k l y h) = (omega arith, omega arith)
     go r p (term_wrong i j b w k l y h) = (omega arith, omega arith)
     go r p (bytes_follow b l) = (omega arith, omega arith)
-
--- so the number alone tells whether the file reads
-pub reason_none : (f : List ℕ) → reason_of (reading f) ≡ 0 → reading f ≡ means (meaning f)
-reason_none f z = go (reading f) refl z
-  where
-    go : (r : Reading) → reading f ≡ r → reason_of r ≡ 0 → r ≡ means (meaning f)
-    go (refused r p) e z = absurd (omega (arith, reason_range f r p e))
-    go (means d) e z = ap means (read_means f d e)
-
-pub reason_some : (f : List ℕ) → reason_of (reading f) ≢ 0 → reading f ≡ refused (reason_of (reading f)) (place_of (reading f))
-reason_some f n = go (reading f) n
-  where
-    go : (r : Reading) → reason_of r ≢ 0 → r ≡ refused (reason_of r) (place_of r)
-    go (refused r p) n = refl
-    go (means d) n = absurd (n refl)

@@ -92,9 +92,6 @@ module _ (f starts : List ℕ) (s : Stands f starts) where
     pub body_ordered : get_or starts i 0 ≤ get_or starts (i + 1) 0 - 4
     body_ordered = omega (arith, here)
 
-    pub body_within : get_or starts (i + 1) 0 - 4 ≤ length f
-    body_within = omega (arith, here)
-
     pub list_held : (r : List ℕ) → r ≡ terms (body_at f (get_or starts i 0) (get_or starts (i + 1) 0)) → r ≡ get_or (lists_in f starts) i []
     list_held r e =
         let z : 0 + i ≡ i = omega arith in

@@ -4,7 +4,6 @@ use mathlib.Core.Path.{◌≡◌, refl}
 use mathlib.Core.List.{map}
 use lib.ListN.{length}
 use Rattle.records.specs.Bytes.{term_bytes}
-use Rattle.std.specs.List.{concat}
 use Rattle.records.specs.Records.{a_record}
 use Rattle.records.specs.Writing.{writing_answer, writing_after}
 use Rattle.records.specs.Encode.{stage_bytes, encode}

@@ -3,8 +3,7 @@
 use mathlib.Core.Path.{◌≡◌, refl, sym, ap, ◌∙◌, subst}
 use mathlib.Core.Bool.{false}
 use mathlib.Core.List.{List, [], ◌∷◌, ◌++◌}
-use Prim.Native.Nat.{ℕ, ◌+◌, ◌*◌, ◌%◌, ◌^◌, ◌≤◌, ◌<◌}
-use native.Mathlib.Nat.{mod-lt}
+use Prim.Native.Nat.{ℕ, ◌+◌, ◌*◌, ◌^◌, ◌≤◌, ◌<◌}
 use native.Mathlib.Numerals.{add-one}
 use native.Mathlib.Omega.{arith}
 use Rattle.std.proofs.Math.Nat.{pow-le-pow_left, pow-le-pow_right, mul-le-mul}
@@ -32,12 +31,6 @@ use Rattle.producer.proofs.Writing.{tables_length, file_records, file_length}
 module _ (m s : ℕ) (limits : broken m s 1 ≡ false) where
   pub bits_fit : Fits w64 (m * s)
   bits_fit = record { fits = omega (arith, (bounds m s 1 limits).bits) }
-
-  pub some_bit : 0 < m
-  some_bit = omega (arith, (bounds m s 1 limits).m_low)
-
-  pub bit_within : (i : ℕ) → i % m < m
-  bit_within i = mod-lt i some_bit
 
 pub short_list : (l slice : List ℕ) → slice ≡ l → length l ≤ greatest_terms → 4 * length slice < 65536
 short_list l slice e h = omega (arith, ap length e)

@@ -33,7 +33,8 @@ use Rattle.direct.specs.Inside.Placing.{Ruled, place_by}
 use Rattle.direct.specs.declared.Rule.{Rule}
 use Rattle.producer.specs.Producing.{produced, produced_reason, producing, output_after, produced_length}
 use Rattle.producer.specs.Inside.Filing.{words_file}
-use Rattle.producer.proofs.Answering.{Answered, refuses, succeeds, TableTested, DegreeTested, reason_head, reason_size, reason_entry, reason_repeat, table_tested, reason_placement, reason_degree, found_degree, found_ready, file_is, length_is, short, enough}
+use Rattle.producer.proofs.Answering.{Answered, refuses, succeeds, TableTested, DegreeTested, reason_head, reason_size, reason_entry, reason_repeat, table_tested, reason_placement, reason_degree}
+use Rattle.producer.proofs.Answering.{found_degree, found_ready, file_is, length_is, short, enough}
 
 -- ---- `produce`: the head of m, s and one stage
 

@@ -6,7 +6,7 @@ pub mod Tests
 pub mod Tables
 pub mod Stages
 pub mod Spreads
-pub mod Independent
+pub mod Independence
 pub mod Meetings
 pub mod Dependence
 pub mod Packing

@@ -19,7 +19,7 @@ use Rattle.sharing.proofs.Sharing.{sum_shares}
 use Rattle.sharing.proofs.Stages.{stage_output_lt}
 use Rattle.sharing.proofs.Tests.{uniform→even, ignores↔}
 use Rattle.sharing.proofs.Spreads.{Spreads, setting_met, spreads_none, spreads_then}
-use Rattle.sharing.proofs.Independent.{same_settings, same_values, same_reads}
+use Rattle.sharing.proofs.Independence.{same_settings, same_values, same_reads}
 
 -- ---- a stage, and a chain of them
 

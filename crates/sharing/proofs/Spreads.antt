@@ -20,17 +20,17 @@ use Rattle.sharing.proofs.Sharing.{setting_lt, one_sharing}
 
 -- ---- sharings of width n in s shares: the values and the settings of one secret
 
-module _ (n s x : ℕ) (few : 0 < s) (lx : x < 2 ^ n) where
+module _ (n s x : ℕ) (some_share : 0 < s) (lx : x < 2 ^ n) where
   -- a secret and a setting of all shares but one have one sharing
   setting_once : (e q : ℕ) → e < s → q < 2 ^ (n * (s - 1)) → count (2 ^ (n * s)) (λ σ. eqb (sum n s σ) x && eqb (setting n e σ) q) ≡ 1
-  setting_once = go s few
+  setting_once = go s some_share
     where
       go : (s : ℕ) → 0 < s → (e q : ℕ) → e < s → q < 2 ^ (n * (s - 1)) → count (2 ^ (n * s)) (λ σ. eqb (sum n s σ) x && eqb (setting n e σ) q) ≡ 1
       go zero p e q le lq = absurd (not-suc-le-zero p)
       go (suc s) p e q le lq = one_sharing n s e x q (le_of_suc-le-suc le) lx (subst (λ (k : ℕ). q < 2 ^ (n * k)) (sub-one (suc s)) lq)
 
   setting_below : (e : ℕ) → e < s → (σ : ℕ) → σ < 2 ^ (n * s) → setting n e σ < 2 ^ (n * (s - 1))
-  setting_below = go s few
+  setting_below = go s some_share
     where
       go : (s : ℕ) → 0 < s → (e : ℕ) → e < s → (σ : ℕ) → σ < 2 ^ (n * s) → setting n e σ < 2 ^ (n * (s - 1))
       go zero p e le σ l = absurd (not-suc-le-zero p)
@@ -60,22 +60,22 @@ pub record Spreads (s n w K : ℕ) (h g : ℕ → ℕ) : Type 0 where
 
 module _ (s n w K : ℕ) (h g : ℕ → ℕ) where
   module _ (c : Maps s n w h g) (x : ℕ) where
-    pub right : (σ : ℕ) → σ < 2 ^ (n * s) → eqb (sum n s σ) x ≡ true → eqb (sum w s (h σ)) (g x) ≡ true
-    right σ l e = eq-eqb (sum w s (h σ)) (g x) (c.sums σ l ∙ ap g (eqb-true (sum n s σ) x e))
+    pub sum_right : (σ : ℕ) → σ < 2 ^ (n * s) → eqb (sum n s σ) x ≡ true → eqb (sum w s (h σ)) (g x) ≡ true
+    sum_right σ l e = eq-eqb (sum w s (h σ)) (g x) (c.sums σ l ∙ ap g (eqb-true (sum n s σ) x e))
 
   module _ (c : Spreads s n w K h g) (x : ℕ) (lx : x < 2 ^ n) where
     -- a test of what h gives passes K times as often among the sharings of x as the test itself among those of g x
     pub count_spread : (p : ℕ → Bool)
         → count (2 ^ (n * s)) (λ σ. eqb (sum n s σ) x && p (h σ)) ≡ K * count (2 ^ (w * s)) (λ τ. eqb (sum w s τ) (g x) && p τ)
     count_spread =
-        count_parts (2 ^ (n * s)) (2 ^ (w * s)) K (λ σ. eqb (sum n s σ) x) h (λ τ. eqb (sum w s τ) (g x)) c.maps.into (right c.maps x)
+        count_parts (2 ^ (n * s)) (2 ^ (w * s)) K (λ σ. eqb (sum n s σ) x) h (λ τ. eqb (sum w s τ) (g x)) c.maps.into (sum_right c.maps x)
         (λ q l b. c.each x lx q l (eqb-true (sum w s q) (g x) b))
 
     -- ---- what h gives, without share e
 
     module _ (e : ℕ) (le : e < s) where
-      few : 0 < s
-      few = omega arith
+      some_share : 0 < s
+      some_share = omega arith
 
       gx : g x < 2 ^ w
       gx = c.maps.g_into x lx
@@ -83,11 +83,11 @@ module _ (s n w K : ℕ) (h g : ℕ → ℕ) where
       -- each setting is met exactly K times
       pub setting_met : (q : ℕ) → q < 2 ^ (w * (s - 1)) → count (2 ^ (n * s)) (λ σ. eqb (sum n s σ) x && eqb (setting w e (h σ)) q) ≡ K
       setting_met q lq =
-          count_spread (λ τ. eqb (setting w e τ) q) ∙ ap (λ (k : ℕ). K * k) (setting_once w s (g x) few gx e q le lq) ∙ mul-one K
+          count_spread (λ τ. eqb (setting w e τ) q) ∙ ap (λ (k : ℕ). K * k) (setting_once w s (g x) some_share gx e q le lq) ∙ mul-one K
 
       -- a test of the setting passes K times as often as settings pass it, which does not depend on x
       pub setting_passed : (p : ℕ → Bool) → count (2 ^ (n * s)) (λ σ. eqb (sum n s σ) x && p (setting w e (h σ))) ≡ K * count (2 ^ (w * (s - 1))) p
-      setting_passed p = count_spread (λ τ. p (setting w e τ)) ∙ ap (λ (k : ℕ). K * k) (settings_passed w s (g x) few gx e le p)
+      setting_passed p = count_spread (λ τ. p (setting w e τ)) ∙ ap (λ (k : ℕ). K * k) (settings_passed w s (g x) some_share gx e le p)
 
       -- nor does it for a test that ignores share e: that is a test of the setting
       pub blind_passed : (p : ℕ → Bool) → ((τ : ℕ) → τ < 2 ^ (w * s) → (u : ℕ) → u < 2 ^ w → p (with_share w e u τ) ≡ p τ)
