@@ -1,5 +1,6 @@
 -- What C is answered: each struct has the fields of the definition's record of its name.
-use Rattle.std.specs.Prelude.{List, ℕ}
+use Rattle.std.specs.Prelude.{List, ℕ, ◌∷◌, ◌++◌}
+use Rattle.std.specs.Fmt.{decimal}
 use Rattle.records.specs.Writing as writing
 use Rattle.design.specs.Reading.{reading, reason_of, place_of}
 use Rattle.threshold.specs.Running as running
@@ -29,3 +30,7 @@ c_produced p = record { reason = p.reason; length = p.length }
 -- "Reading" alone, as it is published: reason, place and 0; on success all three are 0.
 unfoldable pub read_answer : List ℕ → verdict.Verdict
 read_answer f = verdict.answer (reason_of (reading f)) (place_of (reading f)) 0
+
+-- a verdict as it is printed: three decimal numbers with one space between
+abbrev pub verdict_text : Verdict → List ℕ
+verdict_text v = decimal v.reason ++ 32 ∷ (decimal v.place ++ 32 ∷ decimal v.component)

@@ -90,8 +90,13 @@ impl From<Result<usize, Refusal>> for Verdict {
     }
 }
 
-/// Reason, place and component in numbers.
+/// Reason, place and component in decimal numbers, one space between.
 impl fmt::Display for Verdict {
+    ghost use Rattle.std.specs.Prelude.{Some};
+    ghost use Rattle.jestrunas.specs.Published.{verdict_text};
+
+    ghost output = { λ v. Some (verdict_text v) };
+
     fn fmt<W: fmt::Write>(&self, f: &mut fmt::Formatter<W>) -> fmt::Result {
         write!(f, "{} {} {}", self.reason, self.place, self.component)
     }

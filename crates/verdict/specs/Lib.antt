@@ -1,0 +1,2 @@
+-- The verdict program.
+pub mod Program
