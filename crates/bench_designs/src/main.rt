@@ -76,7 +76,7 @@ fn judge_request(
 fn main(rt: HostRuntime) -> Result<()> {
     let mut workspace = vec![in rt.alloc(); 0u8; WORKSPACE]?;
     let mut tally = Tally::new(rt.alloc());
-    let input = BufReader::new(rt.alloc(), rt.reader())?;
+    let input = BufReader::new(rt.alloc(), rt.stdin())?;
     for (i, line) in (1..usize::MAX).zip(input.lines(rt.alloc())) {
         let request = Request::parse(rt.alloc(), &line?)?;
         print!(rt; "{i}")?;
