@@ -2,7 +2,7 @@
 
 use crate::hex;
 use crate::lent::{self, Lent};
-use crate::operations::{Counted, OPERATIONS};
+use crate::operations::{Counted, Operation, OPERATIONS};
 use crate::random::Random;
 use reference::{Answer, Design, Fault};
 use std::fmt::{Debug, Display};
@@ -29,7 +29,10 @@ pub const FILES: usize = 200_000;
 
 /// What is compared so far.
 pub struct Comparison {
-    pub random: Random,
+    /// Numbers for the files, and behind them for each operation its own: one operation more changes the files and calls of no other.
+    random: Vec<Random>,
+    /// Which of these are drawn from now.
+    from: usize,
     pub counted: Counted,
     pub files: usize,
     pub readable: usize,
@@ -41,8 +44,11 @@ pub struct Comparison {
 
 impl Comparison {
     pub fn new(seed: u64) -> Comparison {
+        let mut seeds = Random::new(!seed);
+        let own = OPERATIONS.iter().map(|_| Random::new(seeds.word()));
         Comparison {
-            random: Random::new(seed),
+            random: [Random::new(seed)].into_iter().chain(own).collect(),
+            from: 0,
             counted: Counted::default(),
             files: 0,
             readable: 0,
@@ -53,6 +59,21 @@ impl Comparison {
         }
     }
 
+    /// The numbers of the files, or of the operation whose turn it is.
+    pub fn random(&mut self) -> &mut Random {
+        &mut self.random[self.from]
+    }
+
+    /// Calls a function of each operation, with its own numbers.
+    pub fn each(&mut self, call: impl Fn(&Operation, &mut Comparison)) {
+        let before = self.from;
+        for (i, operation) in OPERATIONS.iter().enumerate() {
+            self.from = 1 + i;
+            call(operation, self);
+        }
+        self.from = before;
+    }
+
     /// Lends directly before the page that nobody may touch, or directly after one, inputs and output as the two say; by chance where
     /// none are named.
     pub fn lend_at_end(&mut self, sides: Option<[bool; 2]>) {
@@ -61,7 +82,7 @@ impl Comparison {
 
     /// Bytes to be lent for reading.
     pub fn input<'a>(&mut self, bytes: &'a [u8]) -> Input<'a> {
-        Input { bytes, at_end: self.sides.map_or_else(|| !self.random.once_in(4), |[input, _]| input) }
+        Input { bytes, at_end: self.sides.map_or_else(|| !self.random().once_in(4), |[input, _]| input) }
     }
 
     /// Lends the inputs and, where there is one, an output or a workspace of this length, which holds anything before; calls the library; and
@@ -78,8 +99,8 @@ impl Comparison {
         let mut bytes = Vec::new();
         let mut at_end = true;
         if let Some(length) = output {
-            bytes = self.random.bytes(length);
-            at_end = self.sides.map_or_else(|| self.random.once_in(2), |[_, output]| output);
+            bytes = self.random().bytes(length);
+            at_end = self.sides.map_or_else(|| self.random().once_in(2), |[_, output]| output);
         }
         self.output.put(&bytes, at_end);
         for (room, input) in self.inputs.iter_mut().zip(inputs) {
@@ -147,8 +168,6 @@ impl Comparison {
             Err(fault) => [fault.reason, fault.place, 0, 0],
         };
         let asked = Asked { file, design, verdict, placement };
-        for operation in OPERATIONS {
-            (operation.ask)(self, &asked);
-        }
+        self.each(|operation, c| (operation.ask)(c, &asked));
     }
 }

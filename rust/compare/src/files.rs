@@ -35,7 +35,7 @@ fn changes(c: &mut Comparison) {
             c.ask(&file);
         }
     }
-    for file in make::long_lists(&mut c.random) {
+    for file in make::long_lists(c.random()) {
         c.ask(&file);
         c.ask(&file[..file.len() / 2]);
     }
@@ -87,7 +87,7 @@ fn large(c: &mut Comparison) {
 
 /// A design of this size. Of the largest sizes most are refused soon: a whole verdict takes a second there.
 fn sized(c: &mut Comparison, m: usize, s: usize, k: usize) -> Design {
-    let random = &mut c.random;
+    let random = c.random();
     if m * s <= QUICK || random.once_in(12) {
         return make::design(random, m, s, k);
     }
@@ -103,10 +103,10 @@ fn sized(c: &mut Comparison, m: usize, s: usize, k: usize) -> Design {
 
 /// A file that reads, if one is made, after it was asked about.
 fn base(c: &mut Comparison) -> Option<Vec<u8>> {
-    match c.random.below(40) {
+    match c.random().below(40) {
         0..=29 => {
-            let (m, s) = make::size(&mut c.random);
-            let k = if m * s > LARGE && c.random.once_in(2) { 1 } else { 1 + c.random.below(STAGES_MAX) };
+            let (m, s) = make::size(c.random());
+            let k = if m * s > LARGE && c.random().once_in(2) { 1 } else { 1 + c.random().below(STAGES_MAX) };
             let file = encode(&sized(c, m, s, k));
             c.ask(&file);
             Some(file)
@@ -120,7 +120,7 @@ fn base(c: &mut Comparison) -> Option<Vec<u8>> {
             Some(file)
         }
         _ => {
-            let file = make::noise(&mut c.random);
+            let file = make::noise(c.random());
             c.ask(&file);
             None
         }
@@ -132,9 +132,9 @@ pub fn generated(c: &mut Comparison) {
     let Some(base) = base(c) else { return };
     let large = usize::from(base[4] * base[5]) > LARGE;
     for _ in 0..if large { 2 } else { 3 } {
-        let mut file = make::damaged(&mut c.random, &base);
-        if c.random.once_in(5) && reference::read(&file).is_ok() {
-            file = make::damaged(&mut c.random, &file);
+        let mut file = make::damaged(c.random(), &base);
+        if c.random().once_in(5) && reference::read(&file).is_ok() {
+            file = make::damaged(c.random(), &file);
         }
         c.ask(&file);
     }

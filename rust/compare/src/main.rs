@@ -22,16 +22,16 @@ fn main() {
     for sides in [[true, true], [true, false], [false, true], [false, false]] {
         c.lend_at_end(Some(sides));
         files::edges(&mut c);
-        OPERATIONS.iter().for_each(|operation| (operation.edges)(&mut c));
+        c.each(|operation, c| (operation.edges)(c));
     }
     c.lend_at_end(None);
     files::every(&mut c);
-    OPERATIONS.iter().for_each(|operation| (operation.every)(&mut c));
+    c.each(|operation, c| (operation.every)(c));
     println!("edges, and every file and call of some kinds: {} files, {:.1} s", c.files, start.elapsed().as_secs_f64());
     let most = c.files + count;
     while c.files < most {
         files::generated(&mut c);
-        OPERATIONS.iter().for_each(|operation| (operation.generated)(&mut c));
+        c.each(|operation, c| (operation.generated)(c));
     }
 
     let complete = OPERATIONS.iter().fold(true, |complete, operation| (operation.say)(&c) && complete);

@@ -1,4 +1,5 @@
-//! The operations, each in a module: how it is called, on what, and which answers must occur. A new one is a module and its name in this list.
+//! The operations, each in a module: how it is called, on what, and which answers must occur. A new one is a module and its name at
+//! the end of this list.
 
 use crate::comparison::{Asked, Comparison};
 

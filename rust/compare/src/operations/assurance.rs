@@ -17,7 +17,7 @@ const MOST_BITS: usize = 9;
 
 fn ask(c: &mut Comparison, asked: &Asked) {
     match &asked.design {
-        Ok(design) if asked.verdict[0] == 0 && design.m * design.s <= MOST_BITS && c.random.once_in(8) => {
+        Ok(design) if asked.verdict[0] == 0 && design.m * design.s <= MOST_BITS && c.random().once_in(8) => {
             assured(c, design, asked.file);
         }
         _ => {}

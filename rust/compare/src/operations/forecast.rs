@@ -49,10 +49,10 @@ fn ask(c: &mut Comparison, asked: &Asked) {
 fn every(c: &mut Comparison) {
     for m in 0..=255 {
         for s in 0..=255 {
-            for k in [0, 1, 4, 5, c.random.byte()] {
+            for k in [0, 1, 4, 5, c.random().byte()] {
                 let mut file = vec![3, 0, 1, 0, m, s, k];
-                let n = c.random.below(2) * c.random.below(9);
-                file.extend(c.random.bytes(n));
+                let n = c.random().below(2) * c.random().below(9);
+                file.extend(c.random().bytes(n));
                 forecast(c, &file);
             }
         }
@@ -60,8 +60,8 @@ fn every(c: &mut Comparison) {
 }
 
 fn generated(c: &mut Comparison) {
-    if c.random.once_in(10) {
-        let file = make::head(&mut c.random);
+    if c.random().once_in(10) {
+        let file = make::head(c.random());
         forecast(c, &file);
     }
 }

@@ -81,7 +81,7 @@ impl Joined {
 /// Joining into an output of this length: the file, if there is one. A file that is joined with itself may be lent once.
 fn call(c: &mut Comparison, first: &[u8], second: &[u8], length: usize) -> Option<Vec<u8>> {
     let inputs = [c.input(first), c.input(second)];
-    let once = first == second && c.random.once_in(2);
+    let once = first == second && c.random().once_in(2);
     let what = format_args!("join, {} bytes and {}, output of {length}", first.len(), second.len());
     let library = |files: [&[u8]; 2], output: &mut [u8]| {
         let p = native::join(files[0], files[usize::from(!once)], output);
@@ -131,7 +131,7 @@ fn every(c: &mut Comparison) {
             into_each(c, first, second);
         }
     }
-    for file in make::long_lists(&mut c.random) {
+    for file in make::long_lists(c.random()) {
         into_each(c, &file, &file);
     }
 }
@@ -139,13 +139,13 @@ fn every(c: &mut Comparison) {
 /// Two generated files. Of some that join: the joined file is accepted where both are, and a run of it is a run of the second on what the
 /// first gives; and everything that is asked about a file.
 fn generated(c: &mut Comparison) {
-    if !c.random.once_in(2) {
+    if !c.random().once_in(2) {
         return;
     }
-    let [first, second] = make::pair(&mut c.random);
+    let [first, second] = make::pair(c.random());
     let Some(file) = into_each(c, &first, &second) else { return };
     let (m, s) = (usize::from(file[4]), usize::from(file[5]));
-    if m * s > TRIED || !c.random.once_in(4) {
+    if m * s > TRIED || !c.random().once_in(4) {
         return;
     }
     c.counted.join.joined.files += 1;
@@ -158,7 +158,7 @@ fn generated(c: &mut Comparison) {
         c.counted.join.joined.accepted += 1;
     }
     for _ in 0..4 {
-        let shares = run::shares(&mut c.random, m, s);
+        let shares = run::shares(c.random(), m, s);
         let due = jestrunas::run(&first, shares).and_then(|between| jestrunas::run(&second, between));
         let answer = jestrunas::run(&file, shares);
         if answer != due {

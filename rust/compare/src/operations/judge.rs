@@ -114,7 +114,7 @@ fn call(c: &mut Comparison, file: Input, due: Answer, design: Option<&Design>, l
 
 fn ask(c: &mut Comparison, asked: &Asked) {
     let Ok(design) = &asked.design else {
-        let length = if c.random.once_in(16) { 5_000 } else { c.random.below(20) };
+        let length = if c.random().once_in(16) { 5_000 } else { c.random().below(20) };
         return call(c, asked.file, asked.verdict, None, length);
     };
     c.counted.judge.ignored.add(asked.verdict, design);
@@ -122,11 +122,11 @@ fn ask(c: &mut Comparison, asked: &Asked) {
         c.counted.judge.repeating.add(asked.verdict[0]);
     }
     let enough = design.workspace();
-    let more = enough + c.random.below(3) * c.random.below(40);
+    let more = enough + c.random().below(3) * c.random().below(40);
     call(c, asked.file, asked.verdict, Some(design), more);
-    if c.random.once_in(4) {
-        let fewer = c.random.below(enough.min(40)) + 1;
-        let fewer = if c.random.once_in(4) { 0 } else { enough - fewer };
+    if c.random().once_in(4) {
+        let fewer = c.random().below(enough.min(40)) + 1;
+        let fewer = if c.random().once_in(4) { 0 } else { enough - fewer };
         call(c, asked.file, reference::verdict(design, fewer), Some(design), fewer);
     }
 }

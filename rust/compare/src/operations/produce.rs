@@ -104,7 +104,7 @@ fn every(c: &mut Comparison) {
 /// Numbers, a table, a placement and an output that are mostly good; a placement may be bad beside any other fault, so that the order of the
 /// refusals shows. Answers what is produced, and by which placement.
 pub fn any(c: &mut Comparison) -> Option<(Vec<u8>, Vec<u8>)> {
-    let random = &mut c.random;
+    let random = c.random();
     let (mut m, mut s) = make::size(random);
     let mut table = if random.once_in(3) { make::permutation(random, m) } else { make::shareable(random, m, s) };
     let placement = match random.below(8) {
@@ -139,7 +139,7 @@ pub fn any(c: &mut Comparison) -> Option<(Vec<u8>, Vec<u8>)> {
 }
 
 fn generated(c: &mut Comparison) {
-    if c.random.once_in(2) {
+    if c.random().once_in(2) {
         any(c);
     }
 }

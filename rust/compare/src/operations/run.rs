@@ -44,12 +44,12 @@ fn ask(c: &mut Comparison, asked: &Asked) {
     match &asked.design {
         Ok(design) => {
             for _ in 0..2 {
-                let shares = shares(&mut c.random, design.m, design.s);
+                let shares = shares(c.random(), design.m, design.s);
                 run(c, shares);
             }
         }
-        Err(_) if c.random.once_in(4) => {
-            let shares = [0; 5].map(|_: u8| c.random.below(4) as u8);
+        Err(_) if c.random().once_in(4) => {
+            let shares = [0; 5].map(|_: u8| c.random().below(4) as u8);
             run(c, shares);
         }
         Err(_) => {}

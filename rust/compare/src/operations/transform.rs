@@ -21,7 +21,7 @@ fn call(c: &mut Comparison, m: usize, input: &[u8], length: usize) {
     let (reason, output) = c.call(format_args!("transform {m}, output of {length}"), [given], Some(length), library, second);
     c.counted.transform.calls.add(reason);
     if reason == 0 {
-        let length = input.len() + c.random.below(9);
+        let length = input.len() + c.random().below(9);
         let again = c.input(&output[..input.len()]);
         let the_input = |output: &mut [u8]| {
             output[..input.len()].copy_from_slice(input);
@@ -50,7 +50,7 @@ fn edges(c: &mut Comparison) {
 /// A number, an input and an output that are mostly good; an output may be short beside any other fault, so that the order of the refusals
 /// shows.
 fn generated(c: &mut Comparison) {
-    let random = &mut c.random;
+    let random = c.random();
     let mut m = 1 + random.below(WIDTH_MAX);
     let mut input: Vec<u8> = (0..1 << m).map(|_| random.below(1 << m) as u8).collect();
     let length = if random.once_in(8) { random.below(input.len()) } else { input.len() + random.below(3) * random.below(9) };
