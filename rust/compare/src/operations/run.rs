@@ -9,9 +9,6 @@ use reference::Shares;
 
 pub const OPERATION: Operation = Operation { ask, say, ..NOTHING };
 
-/// The reasons that running has.
-pub const REASONS: [&[usize]; 3] = [&[0], &READING, &[15]];
-
 #[derive(Default)]
 pub struct Counted {
     calls: Counts,
@@ -57,5 +54,5 @@ fn ask(c: &mut Comparison, asked: &Asked) {
 }
 
 fn say(c: &Comparison) -> bool {
-    c.counted.run.calls.say("run", &REASONS)
+    c.counted.run.calls.say("run", &[&[0], &READING, &[15]])
 }
