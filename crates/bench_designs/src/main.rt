@@ -3,26 +3,18 @@
 // each number.
 #![tactic(auto)]
 
+mod request; // request.rt: what a line asks for
 mod tally; // tally.rt: how the lines ended, counted
 
+use anyhow::Result;
 use jestrunas::Verdict;
 use reasons::Reason;
-use std::io;
-use std::io::Read;
+use request::Request;
+use std::io::{self, BufRead, BufReader};
 use tally::{Outcome, Tally};
-use text::{Line, behind_line};
 
-// The most bytes of input that are read.
-const MOST_INPUT: u64 = 131072;
-
-// The most entries of a table that are read: one more than a table has.
-const MOST_ENTRIES: usize = 65;
-
-// The most bytes of a placement that are read: one more than a placement has.
-const MOST_PLACEMENT: usize = 31;
-
-// The most bytes of a design file.
-const MOST_BYTES: usize = 32768;
+// The bytes of the output that is lent for a design file: enough for each that is produced.
+const OUTPUT: usize = 32768;
 
 // The bytes of the greatest workspace: a bit for each sharing of the greatest share bits.
 const WORKSPACE: usize = 131072;
@@ -46,7 +38,7 @@ fn judge_table(
     placement: &[u8],
     workspace: &mut [u8],
 ) -> io::Result<Outcome> {
-    let mut output = vec![in rt.alloc(); 0u8; MOST_BYTES]?;
+    let mut output = vec![in rt.alloc(); 0u8; OUTPUT]?;
     match producer::produce(m, s, table, placement, &mut output) {
         Ok(length) => {
             print!(rt; " produce 0 {length}")?;
@@ -60,47 +52,39 @@ fn judge_table(
     }
 }
 
-// The line in front of the text, of either form.
-fn judge_line(
+fn judge_request(
     rt: &(impl Print + AllocGlobal),
-    text: &[u8],
+    request: &Request,
     workspace: &mut [u8],
 ) -> io::Result<Outcome> {
-    let mut words = Line::new(text);
-    if text.starts_with(b"f") {
-        let mut file = vec![in rt.alloc(); 0u8; MOST_BYTES]?;
-        let length = words.file(&mut file);
-        file.truncate(length);
-        judge_file(rt, &file, workspace)
-    } else {
-        let mut table = [0u8; MOST_ENTRIES];
-        let request = words.request(&mut table);
-        let entries = &table[..request.count];
-        let mut bytes = [0u8; MOST_PLACEMENT];
-        let placement = match words.placement(&mut bytes) {
-            0 => producer::published_placement(request.s),
-            named => &bytes[..named],
-        };
-        judge_table(rt, request.m, request.s, entries, placement, workspace)
+    match request {
+        Request::File(file) => judge_file(rt, file, workspace),
+        Request::Table {
+            m,
+            s,
+            table,
+            placement,
+        } => {
+            let placement = match placement {
+                Some(placement) => placement.as_slice(),
+                None => producer::published_placement(*s),
+            };
+            judge_table(rt, *m, *s, table, placement, workspace)
+        }
     }
 }
 
-fn main(rt: HostRuntime) -> io::Result<()> {
-    let mut input = Vec::new(rt.alloc());
-    rt.stdin().take(MOST_INPUT).read_to_end(&mut input)?;
+fn main(rt: HostRuntime) -> Result<()> {
     let mut workspace = vec![in rt.alloc(); 0u8; WORKSPACE]?;
     let mut tally = Tally::new(rt.alloc());
-    let mut text = input.as_slice();
-    // Lines are counted, and each is read with the text behind it, so what the loop goes by is the text.
-    for i in 1..usize::MAX {
-        if text.is_empty() {
-            break;
-        }
+    let input = BufReader::new(rt.alloc(), rt.stdin())?;
+    for (i, line) in (1..usize::MAX).zip(input.lines(rt.alloc())) {
+        let request = Request::parse(rt.alloc(), &line?)?;
         print!(rt; "{i}")?;
-        let outcome = judge_line(&rt, text, &mut workspace)?;
+        let outcome = judge_request(&rt, &request, &mut workspace)?;
         println!(rt)?;
         tally.count(outcome)?;
-        text = behind_line(text);
     }
-    println!(rt; "{tally}")
+    println!(rt; "{tally}")?;
+    Ok(())
 }

@@ -13,7 +13,7 @@
 #define JOIN(a, b) JOIN2(a, b)
 #define NAME(f) JOIN(PREFIX, f)
 
-#define RECORDS_MAX 88
+#define RECORDS_MAX (3 + JESTRUNAS_STAGES_MAX * (1 + JESTRUNAS_SHARE_BITS_MAX))
 
 typedef struct {
     size_t m, s, k;
@@ -32,7 +32,8 @@ static uint32_t u32_at(const uint8_t *p) {
 }
 
 static int limits_hold(size_t m, size_t s, size_t k) {
-    return m >= 1 && m <= 6 && s >= 3 && s <= 5 && m * s <= 20 && k >= 1 && k <= 4;
+    return m >= 1 && m <= JESTRUNAS_WIDTH_MAX && s >= JESTRUNAS_SHARES_MIN && s <= JESTRUNAS_SHARES_MAX &&
+           m * s <= JESTRUNAS_SHARE_BITS_MAX && k >= 1 && k <= JESTRUNAS_STAGES_MAX;
 }
 
 static int all_below(const uint8_t *t, size_t n, size_t limit) {
@@ -72,7 +73,7 @@ static jestrunas_verdict_t read_layout(const uint8_t *file, size_t file_len, lay
         if (file_len - at < 4) { fault.reason = 1; return fault; }
         size_t len = u16_at(file + at);
         if (u16_at(file + at + 2) != kind) { fault.reason = 2; return fault; }
-        int fits = kind == 1 ? len == 3 : kind == 2 ? len == (size_t)1 << d->m : kind == 3 ? len % 4 == 0 && len <= 16384 : len == 0;
+        int fits = kind == 1 ? len == 3 : kind == 2 ? len == (size_t)1 << d->m : kind == 3 ? len % 4 == 0 && len <= 4 * JESTRUNAS_TERMS_MAX : len == 0;
         if (!fits) { fault.reason = 3; return fault; }
         if (file_len - at - 4 < len) { fault.reason = 1; return fault; }
         fault.reason = body_fault(file + at + 4, len, kind, d);
@@ -143,7 +144,7 @@ static size_t offending(const list *l, size_t m, size_t s) {
 
 /* Trials are counted where a pass ends, so that counting adds nothing to the loops. */
 static jestrunas_judged_t judge_stage(const uint8_t *file, const layout *d, size_t g, uint8_t *ws) {
-    list l[20];
+    list l[JESTRUNAS_SHARE_BITS_MAX];
     size_t bits = d->m * d->s, sharings = (size_t)1 << bits;
     const uint8_t *table = file + d->start[table_record(d, g)];
     jestrunas_judged_t v = {0, g + 1, 0, (2 * g + 2) * sharings};
@@ -205,12 +206,12 @@ jestrunas_judged_t NAME(judge)(const uint8_t *file, size_t file_len, uint8_t *ws
 
 jestrunas_run_t NAME(run)(const uint8_t *file, size_t file_len, jestrunas_shares_t shares) {
     layout d = {0};
-    list l[20];
+    list l[JESTRUNAS_SHARE_BITS_MAX];
     jestrunas_run_t a = {0, {{0}}};
     uint32_t x = 0;
     a.reason = read_layout(file, file_len, &d).reason;
     if (a.reason) return a;
-    for (size_t j = 0; j < 5; j++) {
+    for (size_t j = 0; j < JESTRUNAS_SHARES_MAX; j++) {
         if (shares.share[j] >= (j < d.s ? 1 << d.m : 1)) { a.reason = 15; return a; }
         if (j < d.s) x |= (uint32_t)shares.share[j] << (j * d.m);
     }
@@ -230,7 +231,7 @@ static void transform_in_place(uint8_t *t, size_t n) {
 }
 
 size_t NAME(transform)(size_t m, const uint8_t *in, size_t in_len, uint8_t *out, size_t out_len) {
-    if (m < 1 || m > 6) return 4;
+    if (m < 1 || m > JESTRUNAS_WIDTH_MAX) return 4;
     size_t n = (size_t)1 << m;
     if (in_len != n) return 3;
     if (!all_below(in, n, n)) return 5;
@@ -280,9 +281,9 @@ static void expand(target *t, const uint8_t *component, uint32_t left, uint32_t 
 
 jestrunas_produced_t NAME(produce)(size_t m, size_t s, const uint8_t *table, size_t table_len, const uint8_t *placement,
                                    size_t placement_len, uint8_t *out, size_t out_len) {
-    uint8_t words[64], component[32];
+    uint8_t words[1 << JESTRUNAS_WIDTH_MAX], component[1 << JESTRUNAS_SHARES_MAX];
     jestrunas_produced_t a = {0, 0};
-    if (m > 6 || s > 5 || !limits_hold(m, s, 1)) { a.reason = 4; return a; }
+    if (m > JESTRUNAS_WIDTH_MAX || s > JESTRUNAS_SHARES_MAX || !limits_hold(m, s, 1)) { a.reason = 4; return a; }
     size_t size = (size_t)1 << m;
     if (table_len != size) { a.reason = 3; return a; }
     if (!all_below(table, size, size)) { a.reason = 5; return a; }
@@ -336,7 +337,7 @@ jestrunas_produced_t NAME(join)(const uint8_t *first, size_t first_len, const ui
     a.reason = read_layout(second, second_len, &e).reason;
     if (a.reason) return a;
     if (d.m != e.m || d.s != e.s) { a.reason = 19; return a; }
-    if (d.k + e.k > 4) { a.reason = 20; return a; }
+    if (d.k + e.k > JESTRUNAS_STAGES_MAX) { a.reason = 20; return a; }
     size_t size = (size_t)1 << d.m, stages = 11 + size, end = first_len - 4;
     size_t length = end + (second_len - stages);
     if (out_len < length) { a.reason = 17; return a; }

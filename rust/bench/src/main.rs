@@ -10,104 +10,57 @@ use reference::{encode, published_placement, Design};
 use std::hint::black_box;
 use std::time::Duration;
 
-type Read = unsafe extern "C" fn(*const u8, usize) -> Verdict;
-type AskForecast = unsafe extern "C" fn(*const u8, usize) -> Forecast;
-type Judge = unsafe extern "C" fn(*const u8, usize, *mut u8, usize) -> Judged;
-type RunChain = unsafe extern "C" fn(*const u8, usize, Shares) -> Run;
-type Produce = unsafe extern "C" fn(usize, usize, *const u8, usize, *const u8, usize, *mut u8, usize) -> Produced;
-type Join = unsafe extern "C" fn(*const u8, usize, *const u8, usize, *mut u8, usize) -> Produced;
-type Transform = unsafe extern "C" fn(usize, *const u8, usize, *mut u8, usize) -> usize;
-
-/// One library of operations.
-struct Operations {
-    name: &'static str,
-    read: Read,
-    forecast: AskForecast,
-    judge: Judge,
-    run: RunChain,
-    produce: Produce,
-    join: Join,
-    transform: Transform,
-}
-
+/// The functions of include/jestrunas.h, by the names that they have behind a prefix; and the libraries, each with its prefix. So both are
+/// named once.
 macro_rules! operations {
-    ($module:ident, $name:literal, $read:literal, $forecast:literal, $judge:literal, $run:literal, $produce:literal,
-     $join:literal, $transform:literal) => {
+    ({ $($(#[$where:meta])? $module:ident: $name:literal, $prefix:literal;)* } $functions:tt) => {
+        operations!(struct $functions);
+        $($(#[$where])? operations!(mod $module, $name, $prefix, $functions);)*
+    };
+    (struct { $(fn $function:ident($($argument:ident: $type:ty),*) -> $answer:ty;)* }) => {
+        /// One library of operations.
+        struct Operations {
+            name: &'static str,
+            $($function: unsafe extern "C" fn($($type),*) -> $answer,)*
+        }
+    };
+    (mod $module:ident, $name:literal, $prefix:literal, { $(fn $function:ident($($argument:ident: $type:ty),*) -> $answer:ty;)* }) => {
         mod $module {
             use super::*;
             extern "C" {
-                #[link_name = $read]
-                fn read(file: *const u8, file_len: usize) -> Verdict;
-                #[link_name = $forecast]
-                fn forecast(file: *const u8, file_len: usize) -> Forecast;
-                #[link_name = $judge]
-                fn judge(file: *const u8, file_len: usize, workspace: *mut u8, workspace_len: usize) -> Judged;
-                #[link_name = $run]
-                fn run(file: *const u8, file_len: usize, shares: Shares) -> Run;
-                #[link_name = $produce]
-                fn produce(
-                    m: usize,
-                    s: usize,
-                    table: *const u8,
-                    table_len: usize,
-                    placement: *const u8,
-                    placement_len: usize,
-                    output: *mut u8,
-                    output_len: usize,
-                ) -> Produced;
-                #[link_name = $join]
-                fn join(
-                    first: *const u8,
-                    first_len: usize,
-                    second: *const u8,
-                    second_len: usize,
-                    output: *mut u8,
-                    output_len: usize,
-                ) -> Produced;
-                #[link_name = $transform]
-                fn transform(m: usize, input: *const u8, input_len: usize, output: *mut u8, output_len: usize) -> usize;
+                $(
+                    #[link_name = concat!($prefix, stringify!($function))]
+                    fn $function($($argument: $type),*) -> $answer;
+                )*
             }
-            pub const OPERATIONS: Operations = Operations { name: $name, read, forecast, judge, run, produce, join, transform };
+            pub const OPERATIONS: Operations = Operations { name: $name, $($function),* };
         }
     };
 }
 
-operations!(
-    library,
-    "library",
-    "jestrunas_read",
-    "jestrunas_forecast",
-    "jestrunas_judge",
-    "jestrunas_run",
-    "jestrunas_produce",
-    "jestrunas_join",
-    "jestrunas_transform"
-);
-operations!(gcc, "gcc native", "gcc_read", "gcc_forecast", "gcc_judge", "gcc_run", "gcc_produce", "gcc_join", "gcc_transform");
-operations!(
-    avx2,
-    "gcc x86-64-v3",
-    "avx2_read",
-    "avx2_forecast",
-    "avx2_judge",
-    "avx2_run",
-    "avx2_produce",
-    "avx2_join",
-    "avx2_transform"
-);
-operations!(any, "gcc x86-64", "any_read", "any_forecast", "any_judge", "any_run", "any_produce", "any_join", "any_transform");
-#[cfg(clang)]
-operations!(
-    clang,
-    "clang native",
-    "clang_read",
-    "clang_forecast",
-    "clang_judge",
-    "clang_run",
-    "clang_produce",
-    "clang_join",
-    "clang_transform"
-);
+operations! {
+    {
+        library: "library", "jestrunas_";
+        gcc: "gcc native", "gcc_";
+        avx2: "gcc x86-64-v3", "avx2_";
+        any: "gcc x86-64", "any_";
+        #[cfg(clang)] clang: "clang native", "clang_";
+    }
+    {
+        fn read(file: *const u8, file_len: usize) -> Verdict;
+        fn forecast(file: *const u8, file_len: usize) -> Forecast;
+        fn judge(file: *const u8, file_len: usize, workspace: *mut u8, workspace_len: usize) -> Judged;
+        fn run(file: *const u8, file_len: usize, shares: Shares) -> Run;
+        fn produce(
+            m: usize, s: usize, table: *const u8, table_len: usize, placement: *const u8, placement_len: usize,
+            output: *mut u8, output_len: usize
+        ) -> Produced;
+        fn join(
+            first: *const u8, first_len: usize, second: *const u8, second_len: usize, output: *mut u8, output_len: usize
+        ) -> Produced;
+        fn transform(m: usize, input: *const u8, input_len: usize, output: *mut u8, output_len: usize) -> usize;
+    }
+}
 
 /// The processor time of this thread so far, which other programs on the machine do not add to.
 fn now() -> Duration {

@@ -2,6 +2,9 @@
 
 use reference::{Shares, Stage};
 
+/// The most share bits of the designs whose stages are tried: with more it takes too long.
+pub const TRIED: usize = 12;
+
 /// For each share the output bits that some change of this share alone changes, those of component j at j, all counted from 0. A change
 /// of a share is made of changes of single bits, one after the other, so that these are tried, at every sharing.
 pub fn changed_by(stage: &Stage, m: usize, s: usize) -> Vec<Shares> {

@@ -17,15 +17,15 @@ const MARK: u8 = 0xa5;
 
 static LAST: Mutex<Vec<u8>> = Mutex::new(Vec::new());
 
-/// The file that is compared now.
-pub fn remember(file: &[u8]) {
+/// The inputs of the call that comes now.
+pub fn remember(inputs: &[&[u8]]) {
     let mut last = LAST.lock().expect("one thread");
     last.clear();
-    last.extend(file);
+    last.extend(inputs.iter().copied().flatten());
 }
 
 extern "C" fn touched(_: i32) {
-    println!("DIFFERENCE: the library touched memory that was not lent, at or after the file");
+    println!("DIFFERENCE: the library touched memory that was not lent");
     if let Ok(last) = LAST.try_lock() {
         println!("  input {}", crate::hex(&last));
     }
@@ -68,7 +68,11 @@ impl Lent {
         self.room[self.start..self.end].copy_from_slice(content);
     }
 
-    pub fn slice(&mut self) -> &mut [u8] {
+    pub fn bytes(&self) -> &[u8] {
+        &self.room[self.start..self.end]
+    }
+
+    pub fn bytes_mut(&mut self) -> &mut [u8] {
         &mut self.room[self.start..self.end]
     }
 

@@ -1,7 +1,8 @@
 //! Designs, tables and files to compare on.
 
 use crate::random::Random;
-use reference::samples::layer;
+use jestrunas::TERMS_MAX;
+use reference::samples::{chain, layer};
 use reference::{direct_sharing, encode, published_placement, Design, Product, Shares, Stage};
 
 pub const D: [u8; 47] = [
@@ -12,6 +13,17 @@ pub const D: [u8; 47] = [
 /// Every width and number of shares, m * s rising.
 pub const SIZES: [(usize, usize); 15] =
     [(1, 3), (1, 4), (1, 5), (2, 3), (2, 4), (3, 3), (2, 5), (3, 4), (4, 3), (3, 5), (5, 3), (4, 4), (6, 3), (4, 5), (5, 4)];
+
+/// The most share bits with which a whole verdict of the second implementation takes less than a second or so.
+pub const QUICK: usize = 16;
+
+/// A box whose direct sharing in three shares is accepted.
+pub const BOX3: [u8; 8] = [0, 1, 2, 3, 4, 5, 7, 6];
+
+/// The file of this sharing.
+pub fn box3() -> Vec<u8> {
+    encode(&chain(3, 3, &[&BOX3]))
+}
 
 /// A width and a number of shares, mostly small ones.
 pub fn size(random: &mut Random) -> (usize, usize) {
@@ -383,8 +395,15 @@ pub fn pair(random: &mut Random) -> [Vec<u8>; 2] {
     })
 }
 
-/// A readable file of the largest lists: `terms` of them in one list, and it may be one too long to say so.
-pub fn long_list(random: &mut Random, m: usize, s: usize, terms: usize) -> Vec<u8> {
+/// Files with a list of about as many terms as there may be.
+pub fn long_lists(random: &mut Random) -> Vec<Vec<u8>> {
+    let sizes = [(4, 3), (6, 3), (5, 4)];
+    let terms = [TERMS_MAX - 1, TERMS_MAX, TERMS_MAX + 1];
+    sizes.iter().flat_map(|&(m, s)| terms.map(|terms| long_list(random, m, s, terms))).collect()
+}
+
+/// A readable file of the identity but for one list of so many terms; with one more than there may be it does not read.
+fn long_list(random: &mut Random, m: usize, s: usize, terms: usize) -> Vec<u8> {
     let mut file = encode(&identity(m, s, 1));
     let starts = records(&file);
     let r = 3 + random.below(m * s);

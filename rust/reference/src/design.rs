@@ -89,6 +89,13 @@ pub struct Design {
     pub stages: Vec<Stage>,
 }
 
+impl Design {
+    /// The bytes of workspace that a verdict needs: a bit for each sharing.
+    pub fn workspace(&self) -> usize {
+        (1 << (self.m * self.s)) / 8
+    }
+}
+
 /// Why a file does not read: the number, and the place.
 #[derive(Clone, Copy, Debug, PartialEq, Eq)]
 pub struct Fault {

@@ -125,7 +125,7 @@ pub fn verdict(design: &Design, workspace: usize) -> Answer {
     if repeats(table) {
         return [8, 0, 0, 0];
     }
-    if workspace < (1 << (m * s)) / 8 {
+    if workspace < design.workspace() {
         return [9, 0, 0, 0];
     }
     let through = |x: u8| stages.iter().fold(x, |x, stage| stage.table[usize::from(x)]);

@@ -6,6 +6,7 @@ mod design;
 mod join;
 mod judge;
 mod produce;
+pub mod rows;
 pub mod samples;
 mod transform;
 

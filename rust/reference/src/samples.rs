@@ -1,6 +1,6 @@
 //! Designs that the tests, the sample files and the benchmark share.
 
-use crate::design::{Design, Product, Stage};
+use crate::design::{encode, Design, Product, Stage};
 use crate::produce::{direct_sharing, published_placement};
 use crate::transform::coefficient;
 
@@ -148,7 +148,7 @@ pub fn full() -> Design {
     let component = |share: usize| (0..4).map(|bit| vec![Product::of(&variable(share, bit))]).collect();
     let stage = Stage { table: table.clone(), components: [1, 0, 3, 2].map(component).to_vec() };
     let mut design = Design { m: 4, s: 4, table, stages: vec![stage; 4] };
-    let mut pairs = (32_767 - crate::encode(&design).len()) / 8;
+    let mut pairs = (32_767 - encode(&design).len()) / 8;
     for place in 0..1024 {
         let (bit, product) = (place / 256, place % 256);
         let product = Product::of(&[product as u8 & 15, product as u8 >> 4, 0, 0, 0]);
@@ -167,4 +167,42 @@ pub fn full() -> Design {
 pub fn twenty_share_bits() -> Design {
     let step = |to: usize, a: usize, b: usize| -> Vec<u8> { (0..16u8).map(|x| x ^ (x >> a & x >> b & 1) << to).collect() };
     chain(4, 5, &[&step(0, 2, 3), &step(1, 2, 3), &step(2, 0, 1), &step(3, 0, 1)])
+}
+
+/// The bench designs that are whole files, and the worked designs.
+pub fn files() -> Vec<Vec<u8>> {
+    let with_box = |table: [u8; 2]| {
+        let mut design = d();
+        design.table = table.to_vec();
+        encode(&design)
+    };
+    let identity: Vec<u8> = (0..16).collect();
+    let mut long = chain(4, 3, &[&identity]);
+    long.stages[0].components[0][0] = (0..4096).map(|number| Product::from_number(number, 4, 3).expect("12 variables")).collect();
+    let too_long = [&encode(&long)[..47], &[0x04, 0x40, 3, 0, 0, 0, 0, 0]].concat();
+    let keccak = keccak_row();
+    vec![
+        encode(&d()),                                    // D
+        encode(&one_bit([&[2], &[4], &[]])),             // its last list empty: not correct
+        encode(&one_bit([&[1], &[2], &[4]])),            // component j reading share j alone: accepted too
+        encode(&one_bit([&[2, 4], &[1], &[]])),          // not uniform
+        with_box([1, 0]),                                // the chain is not S
+        with_box([0, 0]),                                // S repeats an entry
+        vec![3, 0, 1, 0, 4, 5, 1],                       // m, s of 4, 5 pass the head: what follows is cut short
+        vec![3, 0, 1, 0, 5, 5, 1],                       // 5, 5 do not
+        vec![3, 0, 1, 0, 6, 4, 1],                       // nor 6, 4
+        vec![3, 0, 1, 0, 4, 2, 1],                       // nor 4, 2
+        encode(&long),                                   // a list of 4,096 terms reads: not correct
+        too_long,                                        // a length of 16,388
+        vec![3, 0, 2, 0, 1],                             // a wrong kind with a cut body
+        encode(&chain(4, 4, &[&cubic()])),               // 0123456789ABCDFE in four shares
+        encode(&chain(4, 3, &[&PRESENT_G, &PRESENT_F])), // PRESENT's S-box, two stages, three shares
+        encode(&chain(4, 3, &[&PRESENT_F, &PRESENT_G])), // the stages the other way round: another box, accepted too
+        encode(&chain(5, 3, &[&keccak])),                // Keccak's row map, three shares
+        encode(&keccak_uniform()),                       // and four shares, uniform: 20 share bits
+        encode(&leaking()),                              // component 2 depends on every share
+        encode(&linear()),                               // a linear layer, component j reading share j alone
+        encode(&one_bit([&[1, 2, 4], &[], &[]])),        // component 1 reading every share, the others none
+        encode(&bits_apart()),                           // each bit of component 1 ignores a share, not the same one
+    ]
 }

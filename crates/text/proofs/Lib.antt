@@ -1,2 +1,0 @@
--- Laws of lines of text.
-pub mod Entries

@@ -1,2 +1,0 @@
--- Definitions of what the functions that read text answer.
-pub mod Lines
