@@ -65,7 +65,8 @@ fn add_lower<W: Word>(half: usize, block: &mut [W])
 fn add_variable<W: Word>(k: usize, words: &mut [W])
     requires variable { k < greatest_width }
     requires blocks { length words.old % 2 ^ (k + 1) ≡ 0 }
-    ensures { W.numbers words.new ≡ tabulate (length words.old) (over_variable k (entry (W.numbers words.old))) }
+    ensures { W.numbers words.new
+        ≡ tabulate (length words.old) (over_variable k (entry (W.numbers words.old))) }
 {
     let half = power(k);
     let size = half + half;
