@@ -219,8 +219,30 @@ pub struct Forecast {
     pub trials: usize,
 }
 
+/// The greatest width: m is 1 to 6.
+pub const WIDTH_MAX: usize = 6;
+
+/// The fewest shares: s is 3 to 5.
+pub const SHARES_MIN: usize = 3;
+
+/// The most shares.
+pub const SHARES_MAX: usize = 5;
+
+/// The most share bits: m · s is at most 20.
+pub const SHARE_BITS_MAX: usize = 20;
+
+/// The most stages: k is 1 to 4.
+pub const STAGES_MAX: usize = 4;
+
+/// The most terms of a list.
+pub const TERMS_MAX: usize = 4096;
+
+/// The bytes of the longest file that reads: 5 bits, 4 shares, 4 stages and as many terms in each list as it may have. The first fault of a
+/// longer file stands within its first `FILE_MAX + 1` bytes.
+pub const FILE_MAX: usize = 1_311_231;
+
 /// The workspace that is enough for every design: 2^20 / 8 bytes.
-pub const WORKSPACE_MAX: usize = 131_072;
+pub const WORKSPACE_MAX: usize = (1 << SHARE_BITS_MAX) / 8;
 
 /// An output that is enough for every file that [`produce_in`] writes. It is promised that none is longer (docs/PROMISES.md), so with it
 /// [`Reason::OutputTooShort`] is never answered.
@@ -288,7 +310,7 @@ pub fn judge_in(file: &[u8], workspace: &mut [u8]) -> Verdict {
 }
 
 /// Runs the chain of a design file on five shares, unused ones zero: the output shares of the last stage.
-pub fn run(file: &[u8], shares: [u8; 5]) -> Result<[u8; 5], Reason> {
+pub fn run(file: &[u8], shares: [u8; SHARES_MAX]) -> Result<[u8; SHARES_MAX], Reason> {
     let answer = native::run(file, shares);
     reason(answer.reason).map_or(Ok(answer.shares.share), Err)
 }
@@ -378,14 +400,24 @@ mod tests {
             assert_eq!(in_header(&name), reason.number(), "{name}");
         }
         assert_eq!((in_header("ACCEPTED"), in_header("OK")), (0, 0));
-        assert_eq!(in_header("WORKSPACE_MAX"), WORKSPACE_MAX);
-        assert_eq!(in_header("PRODUCED_MAX"), PRODUCED_MAX);
+        for (name, number) in [
+            ("WIDTH_MAX", WIDTH_MAX),
+            ("SHARES_MIN", SHARES_MIN),
+            ("SHARES_MAX", SHARES_MAX),
+            ("SHARE_BITS_MAX", SHARE_BITS_MAX),
+            ("STAGES_MAX", STAGES_MAX),
+            ("TERMS_MAX", TERMS_MAX),
+            ("WORKSPACE_MAX", WORKSPACE_MAX),
+            ("PRODUCED_MAX", PRODUCED_MAX),
+        ] {
+            assert_eq!(in_header(name), number, "{name}");
+        }
     }
 
     #[test]
     fn the_header_has_the_same_placements() {
         let header = include_str!("../../../include/jestrunas.h");
-        for s in 3..=5 {
+        for s in SHARES_MIN..=SHARES_MAX {
             let name = format!("jestrunas_placement_{s}[{}] = {{", (1 << s) - 2);
             let (_, array) = header.split_once(&name).unwrap_or_else(|| panic!("{name}"));
             let (bytes, _) = array.split_once('}').unwrap();

@@ -1,6 +1,8 @@
 //! The operations with their answers as plain numbers, as include/jestrunas.h has them, on slices.
 //! A slice is valid for its length, and a `&mut` one overlaps no other: this is all that the library asks of a caller.
 
+use crate::SHARES_MAX;
+
 #[derive(Clone, Copy, Debug, PartialEq, Eq)]
 #[repr(C)]
 pub struct Verdict {
@@ -29,7 +31,7 @@ pub struct Forecast {
 #[derive(Clone, Copy, Debug, PartialEq, Eq)]
 #[repr(C)]
 pub struct Shares {
-    pub share: [u8; 5],
+    pub share: [u8; SHARES_MAX],
 }
 
 #[derive(Clone, Copy, Debug, PartialEq, Eq)]
@@ -84,7 +86,7 @@ pub fn judge(file: &[u8], workspace: &mut [u8]) -> Judged {
     unsafe { jestrunas_judge(file.as_ptr(), file.len(), workspace.as_mut_ptr(), workspace.len()) }
 }
 
-pub fn run(file: &[u8], shares: [u8; 5]) -> Run {
+pub fn run(file: &[u8], shares: [u8; SHARES_MAX]) -> Run {
     unsafe { jestrunas_run(file.as_ptr(), file.len(), Shares { share: shares }) }
 }
 
