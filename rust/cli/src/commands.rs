@@ -4,7 +4,7 @@ use crate::arguments::{number, placement, table, Arguments, Options};
 use crate::design::Design;
 use crate::failure::{tell, Failure, DONE};
 use crate::{files, help, judge, text};
-use jestrunas::{published_placement, Reason};
+use jestrunas::{published_placement, Reason, SHARES_MAX};
 use std::ffi::{OsStr, OsString};
 use std::process::ExitCode;
 
@@ -132,13 +132,13 @@ fn run_chain(arguments: &Arguments) -> Result<u8, Failure> {
     if words.len() != s {
         return Err(Failure::Misused(format!("the design has {s} shares, and {} are given", words.len())));
     }
-    let mut shares = [0; 5];
+    let mut shares = [0; SHARES_MAX];
     for (share, word) in shares.iter_mut().zip(words) {
         // a share above 255 is out of range in every design, as 255 is
         *share = number("a share", word)?.min(255) as u8;
     }
     let output = jestrunas::run(&file, shares).map_err(refused)?;
-    let sum = |shares: [u8; 5]| shares.iter().fold(0, |sum, share| sum ^ share);
+    let sum = |shares: [u8; SHARES_MAX]| shares.iter().fold(0, |sum, share| sum ^ share);
     let x = sum(shares);
     let written: String = output[..s].iter().map(|share| format!(" {share}")).collect();
     files::print(format!("shares{written}\nsum {}\nS({x}) {}\n", sum(output), s_box[usize::from(x)]).as_bytes())?;

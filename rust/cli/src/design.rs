@@ -19,12 +19,6 @@ pub struct Design {
     pub stages: Vec<Stage>,
 }
 
-/// The most stages of a design.
-pub const MOST_STAGES: usize = 4;
-
-/// The most terms of a list.
-pub const MOST_TERMS: usize = 4096;
-
 /// The body of the record in front of the rest of a file that reads.
 fn body<'a>(rest: &mut &'a [u8]) -> &'a [u8] {
     let length = usize::from(u16::from_le_bytes([rest[0], rest[1]]));

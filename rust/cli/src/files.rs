@@ -7,9 +7,8 @@ use std::io::{self, ErrorKind, Read, Write};
 use std::os::unix::fs::MetadataExt;
 use std::path::Path;
 
-/// One byte more than the longest file that reads, which has 5 bits, 4 shares, 4 stages and 4,096 terms in each list. What is read of a
-/// longer file is refused at the same place as the whole.
-pub const DESIGN: u64 = 1_311_232;
+/// One byte more than the longest file that reads. What is read of a longer file is refused at the same place as the whole.
+pub const DESIGN: u64 = jestrunas::FILE_MAX as u64 + 1;
 
 /// The most bytes of a text: more than `explain` writes for the longest file.
 pub const TEXT: u64 = 1 << 26;

@@ -2,7 +2,8 @@
 
 use super::signs::{Sign, Signs};
 use super::{Fault, Place};
-use crate::design::{Design, Stage, MOST_STAGES, MOST_TERMS};
+use crate::design::{Design, Stage};
+use jestrunas::{SHARES_MAX, SHARES_MIN, SHARE_BITS_MAX, STAGES_MAX, TERMS_MAX, WIDTH_MAX};
 use std::collections::HashSet;
 use std::ops::RangeInclusive;
 
@@ -30,9 +31,8 @@ type List = Option<Vec<u32>>;
 
 impl Reader<'_> {
     fn design(mut self) -> Result<Design, Fault> {
-        self.m = self.head_number("m", 1..=6)?;
-        // m times s is at most 20
-        self.s = self.head_number("s", 3..=5.min(20 / self.m))?;
+        self.m = self.head_number("m", 1..=WIDTH_MAX)?;
+        self.s = self.head_number("s", SHARES_MIN..=SHARES_MAX.min(SHARE_BITS_MAX / self.m))?;
         self.word("S")?;
         let s_box = self.table("S")?;
         let mut stages = Vec::new();
@@ -40,8 +40,8 @@ impl Reader<'_> {
             self.signs.pass_line_ends();
             match self.signs.peek() {
                 (_, Sign::TextEnd) if !stages.is_empty() => break,
-                (place, Sign::Word("stage")) if stages.len() == MOST_STAGES => {
-                    return fault(place, format!("a design has at most {MOST_STAGES} stages, and this is one more"));
+                (place, Sign::Word("stage")) if stages.len() == STAGES_MAX => {
+                    return fault(place, format!("a design has at most {STAGES_MAX} stages, and this is one more"));
                 }
                 _ => stages.push(self.stage()?),
             }
@@ -173,8 +173,8 @@ impl Reader<'_> {
             if !terms.insert(term) {
                 return fault(place, "this term stands in this formula before".to_owned());
             }
-            if terms.len() > MOST_TERMS {
-                return fault(place, format!("a formula has at most {MOST_TERMS} terms, and this is one more"));
+            if terms.len() > TERMS_MAX {
+                return fault(place, format!("a formula has at most {TERMS_MAX} terms, and this is one more"));
             }
             if !self.go_on(&['+', '^']) {
                 break;
