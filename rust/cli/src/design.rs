@@ -1,5 +1,7 @@
 //! A design taken apart, and its file.
 
+use crate::json::{list, Json, Object};
+use crate::text;
 use jestrunas::Refusal;
 
 /// A stage: its table, and the list of terms of each bit of each component. The list of bit b of component j is at (j - 1) * m + b, its
@@ -81,5 +83,20 @@ impl Design {
         }
         record(&mut file, 4, &[]);
         file
+    }
+
+    /// The design as fields, its formulas as in a text.
+    pub fn json(&self) -> Object {
+        let component = |stage: &Stage, j: usize| {
+            let shares = (0..self.s).filter(|&share| stage.depends(self.m, j, share)).map(|share| (share + 1).into());
+            let formulas = stage.lists[j * self.m..][..self.m].iter().map(|list| text::sum(self.m, list).into());
+            Object::new().with("depends", shares.collect::<Vec<Json>>()).with("formulas", formulas.collect::<Vec<Json>>()).into()
+        };
+        let stage = |stage: &Stage| {
+            let components = (0..self.s).map(|j| component(stage, j)).collect::<Vec<Json>>();
+            Object::new().with("G", list(&stage.table)).with("components", components).into()
+        };
+        let head = Object::new().with("m", self.m).with("s", self.s).with("S", list(&self.s_box));
+        head.with("stages", self.stages.iter().map(stage).collect::<Vec<Json>>())
     }
 }

@@ -1,6 +1,8 @@
 //! How a command ends that does not do what it was asked.
 
 use crate::files::shown;
+use crate::json::Object;
+use jestrunas::{Reason, Refusal};
 use std::ffi::OsStr;
 use std::fmt::Display;
 use std::io::{self, Write};
@@ -15,22 +17,53 @@ pub const WRONG: u8 = 2;
 #[derive(Debug)]
 pub enum Failure {
     /// An input is refused: what is wrong with it.
-    Refused(String),
+    Refused(Told),
     /// The words behind `jestrunas` are none that it knows: what is wrong with them.
     Misused(String),
     /// A file cannot be read or written: which, and why.
-    Unavailable(String),
+    Unavailable(Told),
     /// Nobody reads the output any more.
     Unread,
 }
 
+/// What is told of a failure: in words, and as JSON.
+#[derive(Debug)]
+pub struct Told {
+    pub words: String,
+    pub json: Object,
+}
+
 impl Failure {
+    /// A file that does not read.
+    pub fn unread_design(file: &OsStr, refusal: &Refusal) -> Failure {
+        let Refusal { reason, place, component, .. } = refusal;
+        let json =
+            Object::new().with_file(file).with("reason", reason.number()).with("place", *place).with("component", *component);
+        let words = format!("{}: {refusal}", shown(file));
+        Failure::Refused(Told { words, json: json.with("words", refusal.meaning().to_string()) })
+    }
+
+    /// A refusal by its number and its words, where no file is to blame.
+    pub fn reason(reason: Reason) -> Failure {
+        let json = Object::new().with("reason", reason.number()).with("words", reason.to_string());
+        Failure::Refused(Told { words: format!("{}: {reason}", reason.number()), json })
+    }
+
+    /// The same, of a file.
+    pub fn file_reason(file: &OsStr, reason: Reason) -> Failure {
+        let json = Object::new().with_file(file).with("reason", reason.number()).with("words", reason.to_string());
+        Failure::Refused(Told { words: format!("{}: {}: {reason}", shown(file), reason.number()), json })
+    }
+
+    /// A file that is refused for another cause than the library's.
     pub fn refused(file: &OsStr, why: impl Display) -> Failure {
-        Failure::Refused(format!("{}: {why}", shown(file)))
+        let json = Object::new().with_file(file).with("words", why.to_string());
+        Failure::Refused(Told { words: format!("{}: {why}", shown(file)), json })
     }
 
     pub fn unavailable(file: &OsStr, why: impl Display) -> Failure {
-        Failure::Unavailable(format!("{}: {why}", shown(file)))
+        let json = Object::new().with_file(file).with("error", why.to_string());
+        Failure::Unavailable(Told { words: format!("{}: {why}", shown(file)), json })
     }
 
     pub fn status(&self) -> u8 {

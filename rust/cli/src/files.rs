@@ -1,6 +1,7 @@
 //! Files that are read and written; `-` is standard input or output.
 
-use crate::failure::Failure;
+use crate::failure::{Failure, Told, DONE};
+use crate::json::Object;
 use std::ffi::{OsStr, OsString};
 use std::fs::{self, File};
 use std::io::{self, ErrorKind, Read, Write};
@@ -26,7 +27,7 @@ pub fn shown(name: &OsStr) -> String {
     shown
 }
 
-fn is_standard(name: &OsStr) -> bool {
+pub fn is_standard(name: &OsStr) -> bool {
     name == "-"
 }
 
@@ -95,12 +96,26 @@ pub fn output(name: &OsStr, bytes: &[u8], inputs: &[&OsStr]) -> Result<(), Failu
     written.map_err(|error| Failure::unavailable(name, error))
 }
 
+/// Prints the answer of a command, which is then done.
+pub fn answer(words: &str) -> Result<u8, Failure> {
+    print(words.as_bytes())?;
+    Ok(DONE)
+}
+
+/// The same in a line of JSON.
+pub fn answer_json(object: &Object) -> Result<u8, Failure> {
+    answer(&format!("{object}\n"))
+}
+
 /// Writes to standard output.
-pub fn print(bytes: &[u8]) -> Result<(), Failure> {
+fn print(bytes: &[u8]) -> Result<(), Failure> {
     let mut out = io::stdout().lock();
     match out.write_all(bytes).and_then(|()| out.flush()) {
         Ok(()) => Ok(()),
         Err(error) if error.kind() == ErrorKind::BrokenPipe => Err(Failure::Unread),
-        Err(error) => Err(Failure::Unavailable(format!("standard output: {error}"))),
+        Err(error) => Err(Failure::Unavailable(Told {
+            words: format!("standard output: {error}"),
+            json: Object::new().with("error", error.to_string()),
+        })),
     }
 }

@@ -1,13 +1,17 @@
 //! The program `jestrunas`: its commands, and the text form of a design (docs/TEXT.md).
 
 mod arguments;
+mod command;
 mod commands;
 mod design;
 mod failure;
 mod files;
-mod help;
-mod judge;
+mod json;
+mod near;
+mod pages;
+mod tables;
 pub mod text;
+mod verdict;
 
 pub use commands::run;
 pub use design::{Design, Stage};

@@ -5,7 +5,7 @@ mod signs;
 mod write;
 
 pub use assemble::assemble;
-pub use write::{explained, written};
+pub use write::{explained, sum, written};
 
 use std::fmt;
 

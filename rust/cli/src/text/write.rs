@@ -43,6 +43,14 @@ fn formula(text: &mut String, start: &str, m: usize, list: &[u32]) {
     wrapped(text, start, list.iter().enumerate().map(|(i, &number)| format!("{}{}", sign(i), term(m, number))));
 }
 
+/// A formula, in one line.
+pub fn sum(m: usize, list: &[u32]) -> String {
+    if list.is_empty() {
+        return "0".to_owned();
+    }
+    list.iter().map(|&number| term(m, number)).collect::<Vec<_>>().join(" + ")
+}
+
 /// The text of a design.
 pub fn written(design: &Design) -> String {
     let Design { m, s, s_box, stages } = design;
