@@ -17,6 +17,7 @@ use crate::command::Command;
 use crate::design::Design;
 use crate::failure::{tell, Failure, DONE};
 use crate::json::Object;
+use crate::why::Why;
 use crate::{files, near, pages};
 use std::ffi::{OsStr, OsString};
 use std::process::ExitCode;
@@ -105,7 +106,7 @@ fn read_design(name: &OsStr) -> Result<(Vec<u8>, Design), Failure> {
     let file = read(name)?;
     match Design::read(&file) {
         Ok(design) => Ok((file, design)),
-        Err(refusal) => Err(Failure::unread_design(name, &refusal)),
+        Err(refusal) => Err(Failure::unread_design(name, &refusal, Why::of_unread(&file, &refusal))),
     }
 }
 

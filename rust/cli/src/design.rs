@@ -44,10 +44,30 @@ impl Stage {
         self.lists[component * m..][..m].iter().flatten().any(|term| term & variables != 0)
     }
 
-    /// What the components sum to at a sharing: share j is the bits from (j - 1) * m on.
-    pub fn sum(&self, m: usize, sharing: u32) -> u8 {
+    /// The output sharing of a sharing.
+    pub fn output(&self, sharing: u32) -> u32 {
         let is_one = |list: &[u32]| list.iter().filter(|&term| term & !sharing == 0).count() % 2 == 1;
-        self.lists.iter().enumerate().filter(|(_, list)| is_one(list)).fold(0, |sum, (i, _)| sum ^ 1 << (i % m))
+        self.lists.iter().enumerate().filter(|(_, list)| is_one(list)).fold(0, |output, (i, _)| output | 1 << i)
+    }
+
+    /// The output sharing of each sharing: bit i of a word is first the coefficient of list i at a term, then, summed over the subsets of
+    /// each sharing, its value there.
+    pub fn outputs(&self, m: usize, s: usize) -> Vec<u32> {
+        let mut words = vec![0; 1 << (m * s)];
+        for (i, list) in self.lists.iter().enumerate() {
+            for &term in list {
+                words[term as usize] |= 1 << i;
+            }
+        }
+        for variable in 0..m * s {
+            for block in words.chunks_mut(2 << variable) {
+                let (lower, upper) = block.split_at_mut(1 << variable);
+                for (upper, lower) in upper.iter_mut().zip(lower) {
+                    *upper ^= *lower;
+                }
+            }
+        }
+        words
     }
 }
 

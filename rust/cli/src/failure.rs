@@ -2,6 +2,7 @@
 
 use crate::files::shown;
 use crate::json::Object;
+use crate::why::Why;
 use jestrunas::{Reason, Refusal};
 use std::ffi::OsStr;
 use std::fmt::Display;
@@ -33,26 +34,34 @@ pub struct Told {
     pub json: Object,
 }
 
+impl Told {
+    fn because(self, why: Option<Why>) -> Told {
+        match why {
+            Some(why) => Told { words: format!("{}: {}", self.words, why.line()), json: self.json.with("why", why.json()) },
+            None => self,
+        }
+    }
+}
+
 impl Failure {
-    /// A file that does not read.
-    pub fn unread_design(file: &OsStr, refusal: &Refusal) -> Failure {
+    /// A file that does not read, and what in it is wrong.
+    pub fn unread_design(file: &OsStr, refusal: &Refusal, why: Option<Why>) -> Failure {
         let Refusal { reason, place, component, .. } = refusal;
-        let json =
-            Object::new().with_file(file).with("reason", reason.number()).with("place", *place).with("component", *component);
-        let words = format!("{}: {refusal}", shown(file));
-        Failure::Refused(Told { words, json: json.with("words", refusal.meaning().to_string()) })
+        let numbers = Object::new().with_file(file).with("reason", reason.number()).with("place", *place);
+        let json = numbers.with("component", *component).with("words", refusal.meaning().to_string());
+        Failure::Refused(Told { words: format!("{}: {refusal}", shown(file)), json }.because(why))
     }
 
-    /// A refusal by its number and its words, where no file is to blame.
-    pub fn reason(reason: Reason) -> Failure {
+    /// A refusal by its number and its words, where no file is to blame, and what that was given is wrong.
+    pub fn reason(reason: Reason, why: Option<Why>) -> Failure {
         let json = Object::new().with("reason", reason.number()).with("words", reason.to_string());
-        Failure::Refused(Told { words: format!("{}: {reason}", reason.number()), json })
+        Failure::Refused(Told { words: format!("{}: {reason}", reason.number()), json }.because(why))
     }
 
     /// The same, of a file.
-    pub fn file_reason(file: &OsStr, reason: Reason) -> Failure {
+    pub fn file_reason(file: &OsStr, reason: Reason, why: Option<Why>) -> Failure {
         let json = Object::new().with_file(file).with("reason", reason.number()).with("words", reason.to_string());
-        Failure::Refused(Told { words: format!("{}: {}: {reason}", shown(file), reason.number()), json })
+        Failure::Refused(Told { words: format!("{}: {}: {reason}", shown(file), reason.number()), json }.because(why))
     }
 
     /// A file that is refused for another cause than the library's.

@@ -9,9 +9,11 @@ mod files;
 mod json;
 mod near;
 mod pages;
+pub mod sharing;
 mod tables;
 pub mod text;
 mod verdict;
+pub mod why;
 
 pub use commands::run;
 pub use design::{Design, Stage};

@@ -1,6 +1,7 @@
 //! A verdict in words and as JSON.
 
 use crate::json::Object;
+use crate::why::Why;
 use jestrunas::{numbers, Verdict};
 use std::ffi::OsStr;
 
@@ -30,9 +31,13 @@ pub fn words(verdict: &Verdict) -> String {
     format!("{reason} {place} {component}, {}: {}", counted(trials(verdict), "trial"), meaning(verdict))
 }
 
-/// The same as fields, of the file with this name.
-pub fn json(name: &OsStr, verdict: &Verdict) -> Object {
+/// The same as fields, of the file with this name, and what is wrong where that is told.
+pub fn json(name: &OsStr, verdict: &Verdict, why: Option<&Why>) -> Object {
     let [reason, place, component] = numbers(verdict);
     let numbers = Object::new().with_file(name).with("reason", reason).with("place", place).with("component", component);
-    numbers.with("trials", trials(verdict)).with("words", meaning(verdict))
+    let told = numbers.with("trials", trials(verdict)).with("words", meaning(verdict));
+    match why {
+        Some(why) => told.with("why", why.json()),
+        None => told,
+    }
 }

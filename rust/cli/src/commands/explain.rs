@@ -4,6 +4,7 @@ use super::read_design;
 use crate::arguments::Arguments;
 use crate::command::{Command, DESIGN, JSON};
 use crate::failure::Failure;
+use crate::why::Why;
 use crate::{files, text, verdict};
 
 pub const EXPLAIN: Command = Command {
@@ -11,7 +12,7 @@ pub const EXPLAIN: Command = Command {
     about: "a design as text, its shares, its verdict",
     text: "\
 Prints a design as text (docs/TEXT.md), as 'assemble' reads it; then, as comments, for each stage a row a component with an x for each \
-share on which it depends, and the verdict.",
+share on which it depends, the verdict, and what of the design is the cause where it is refused.",
     operands: &[DESIGN],
     options: &[JSON],
     status: "0 printed, whatever the verdict; 1 the file does not read.",
@@ -42,9 +43,10 @@ fn explain(arguments: &Arguments) -> Result<u8, Failure> {
     let name = arguments.operand(0);
     let (file, design) = read_design(name)?;
     let verdict = jestrunas::judge(&file);
+    let why = verdict.as_ref().err().and_then(|refusal| Why::of(&design, &[], refusal));
     if arguments.has("--json") {
-        files::answer_json(&verdict::json(name, &verdict).and(design.json()))
+        files::answer_json(&verdict::json(name, &verdict, why.as_ref()).and(design.json()))
     } else {
-        files::answer(&text::explained(&design, &verdict::words(&verdict)))
+        files::answer(&text::explained(&design, &verdict::words(&verdict), &why.map_or(Vec::new(), |why| why.lines())))
     }
 }

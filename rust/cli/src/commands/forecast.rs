@@ -6,6 +6,8 @@ use crate::command::{Command, DESIGN, JSON};
 use crate::failure::Failure;
 use crate::files;
 use crate::json::Object;
+use crate::why::{Given, Why};
+use jestrunas::Reason;
 
 pub const FORECAST: Command = Command {
     name: "forecast",
@@ -26,7 +28,11 @@ trials 16
 
 fn forecast(arguments: &Arguments) -> Result<u8, Failure> {
     let name = arguments.operand(0);
-    let forecast = jestrunas::forecast(&read(name)?).map_err(|reason| Failure::file_reason(name, reason))?;
+    let file = read(name)?;
+    let forecast = jestrunas::forecast(&file).map_err(|reason| {
+        let why = if reason == Reason::LimitBroken { Given::head(&file).map(Why::Given) } else { None };
+        Failure::file_reason(name, reason, why)
+    })?;
     let (workspace, trials) = (forecast.workspace, forecast.trials);
     if arguments.has("--json") {
         files::answer_json(&Object::new().with_file(name).with("workspace", workspace).with("trials", trials))

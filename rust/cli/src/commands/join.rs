@@ -6,6 +6,7 @@ use crate::command::{Command, Operand, Words, JSON, OUTPUT};
 use crate::failure::Failure;
 use crate::files;
 use crate::json::Object;
+use crate::why::Why;
 
 pub const JOIN: Command = Command {
     name: "join",
@@ -24,8 +25,9 @@ pub const JOIN: Command = Command {
 fn join(arguments: &Arguments) -> Result<u8, Failure> {
     files::each_once(&arguments.operands)?;
     let (first, second) = (arguments.operand(0), arguments.operand(1));
-    let (one, _) = read_design(first)?;
-    let (other, _) = read_design(second)?;
-    let file = jestrunas::join(&one, &other).map_err(Failure::reason)?;
+    let (one, first_design) = read_design(first)?;
+    let (other, second_design) = read_design(second)?;
+    let file = jestrunas::join(&one, &other)
+        .map_err(|reason| Failure::reason(reason, Why::of_joining(&first_design, &second_design, reason)))?;
     write(arguments, &file, &[first, second], Object::new())
 }

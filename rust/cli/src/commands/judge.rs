@@ -1,9 +1,11 @@
 //! The command `judge`.
 
 use crate::arguments::Arguments;
-use crate::command::{Command, Operand, Words, JSON};
+use crate::command::{Command, Operand, Switch, Words, JSON};
+use crate::design::Design;
 use crate::failure::{tell, Failure, DONE, REFUSED, WRONG};
 use crate::json::Object;
+use crate::why::Why;
 use crate::{files, verdict};
 use jestrunas::Verdict;
 use std::ffi::OsStr;
@@ -16,12 +18,13 @@ pub const JUDGE: Command = Command {
 Judges design files. Prints a line a file: its reason, place and component, the trials that the verdict took, and the verdict in words. \
 With --json each line is an object of JSON: file, reason, place, component, trials, words; or file, error where the file cannot be had.",
     operands: &[Operand::some("FILE", "a design file").offers(Words::Files)],
-    options: &[JSON],
+    options: &[Switch::flag(&["--why"], "tells in one more line what of a refused design is the cause"), JSON],
     status: "0 all are accepted, 1 one is refused, 2 one cannot be had.",
     example: "\
-$ jestrunas judge designs/d.bin designs/leaks.bin
+$ jestrunas judge --why designs/d.bin designs/leaks.bin
 designs/d.bin: 0 1 0, 16 trials: accepted, 1 stage
 designs/leaks.bin: 13 1 2, 512 trials: component 2 of stage 1 depends on every share
+  share 2 stands in 1 term: y2[0]: x2[1]·x2[2]; component 1 or 3 may have it
 ",
     run: judge,
 };
@@ -53,8 +56,20 @@ impl Progress {
     }
 }
 
-fn judge_file(name: &OsStr) -> io::Result<Verdict> {
-    Ok(jestrunas::judge(&files::input(name, files::DESIGN)?))
+/// A file that was judged, and what is wrong with it where that is asked for.
+struct Judged {
+    verdict: Verdict,
+    why: Option<Why>,
+}
+
+fn judge_file(name: &OsStr, why: bool) -> io::Result<Judged> {
+    let file = files::input(name, files::DESIGN)?;
+    let verdict = jestrunas::judge(&file);
+    let why = verdict.as_ref().err().filter(|_| why).and_then(|refusal| match Design::read(&file) {
+        Ok(design) => Why::of(&design, &[], refusal),
+        Err(_) => Why::of_unread(&file, refusal),
+    });
+    Ok(Judged { verdict, why })
 }
 
 fn judge(arguments: &Arguments) -> Result<u8, Failure> {
@@ -65,23 +80,31 @@ fn judge(arguments: &Arguments) -> Result<u8, Failure> {
     let mut status = DONE;
     for (i, name) in names.iter().enumerate() {
         progress.show(i);
-        let judged = judge_file(name);
+        let judged = judge_file(name, arguments.has("--why"));
         progress.clear();
-        let line = files::shown(name);
-        match &judged {
-            Ok(verdict) if json => files::answer_json(&verdict::json(name, verdict))?,
-            Ok(verdict) => files::answer(&format!("{line}: {}\n", verdict::words(verdict)))?,
-            Err(error) if json => files::answer_json(&Object::new().with_file(name).with("error", error.to_string()))?,
-            Err(error) => {
-                tell(&format!("jestrunas: {line}: {error}\n"));
-                WRONG
-            }
-        };
-        status = status.max(match judged {
-            Ok(Ok(_)) => DONE,
-            Ok(Err(_)) => REFUSED,
-            Err(_) => WRONG,
-        });
+        status = status.max(print(name, &judged, json)?);
     }
     Ok(status)
+}
+
+/// Prints what became of a file, and answers its exit status.
+fn print(name: &OsStr, judged: &io::Result<Judged>, json: bool) -> Result<u8, Failure> {
+    let line = files::shown(name);
+    match judged {
+        Ok(Judged { verdict, why }) if json => files::answer_json(&verdict::json(name, verdict, why.as_ref()))?,
+        Ok(Judged { verdict, why }) => {
+            let why = why.as_ref().map_or(String::new(), |why| format!("  {}\n", why.line()));
+            files::answer(&format!("{line}: {}\n{why}", verdict::words(verdict)))?
+        }
+        Err(error) if json => files::answer_json(&Object::new().with_file(name).with("error", error.to_string()))?,
+        Err(error) => {
+            tell(&format!("jestrunas: {line}: {error}\n"));
+            WRONG
+        }
+    };
+    Ok(match judged {
+        Ok(Judged { verdict: Ok(_), .. }) => DONE,
+        Ok(_) => REFUSED,
+        Err(_) => WRONG,
+    })
 }

@@ -6,6 +6,7 @@ use crate::command::{Command, Operand, Switch, JSON, OUTPUT};
 use crate::failure::Failure;
 use crate::json::Object;
 use crate::tables::{placement, Table};
+use crate::why::Why;
 use jestrunas::published_placement;
 
 pub const PRODUCE: Command = Command {
@@ -38,6 +39,7 @@ fn produce(arguments: &Arguments) -> Result<u8, Failure> {
         Some(word) => placement("a placement", word)?,
         None => published_placement(s).to_owned(),
     };
-    let file = jestrunas::produce(m, s, &entries, &placement).map_err(Failure::reason)?;
+    let file = jestrunas::produce(m, s, &entries, &placement)
+        .map_err(|reason| Failure::reason(reason, Why::of_given(m, s, &entries, &placement, reason)))?;
     write(arguments, &file, &[], Object::new())
 }

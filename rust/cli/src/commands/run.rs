@@ -7,6 +7,7 @@ use crate::design::Design;
 use crate::failure::Failure;
 use crate::files;
 use crate::json::{list, Object};
+use crate::why::{Given, Why};
 use jestrunas::SHARES_MAX;
 
 pub const RUN: Command = Command {
@@ -29,16 +30,18 @@ S(6) 7
 
 fn run(arguments: &Arguments) -> Result<u8, Failure> {
     let (name, words) = (arguments.operand(0), &arguments.operands[1..]);
-    let (file, Design { s, s_box, .. }) = read_design(name)?;
+    let (file, Design { m, s, s_box, .. }) = read_design(name)?;
     if words.len() != s {
         return Err(Failure::Misused(format!("the design has {s} shares, and {} are given", words.len())));
     }
+    let values = words.iter().map(|word| number("a share", word)).collect::<Result<Vec<usize>, Failure>>()?;
     let mut shares = [0; SHARES_MAX];
-    for (share, word) in shares.iter_mut().zip(words) {
+    for (share, value) in shares.iter_mut().zip(&values) {
         // a share above 255 is out of range in every design, as 255 is
-        *share = number("a share", word)?.min(255) as u8;
+        *share = (*value).min(255) as u8;
     }
-    let output = jestrunas::run(&file, shares).map_err(Failure::reason)?;
+    let output =
+        jestrunas::run(&file, shares).map_err(|reason| Failure::reason(reason, Given::share(m, &values).map(Why::Given)))?;
     let sum = |shares: [u8; SHARES_MAX]| shares.iter().fold(0, |sum, share| sum ^ share);
     let x = sum(shares);
     let (sum, due) = (sum(output), s_box[usize::from(x)]);

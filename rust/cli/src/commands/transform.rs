@@ -6,6 +6,8 @@ use crate::failure::Failure;
 use crate::files;
 use crate::json::{list, Object};
 use crate::tables::{packed, Table};
+use crate::why::Why;
+use jestrunas::SHARES_MIN;
 
 pub const TRANSFORM: Command = Command {
     name: "transform",
@@ -31,7 +33,8 @@ fn transform(arguments: &Arguments) -> Result<u8, Failure> {
     };
     let Table { m, entries } = Table::of("a table", word, m)?;
     let mut output = vec![0; entries.len()];
-    jestrunas::transform(m, &entries, &mut output).map_err(Failure::reason)?;
+    jestrunas::transform(m, &entries, &mut output)
+        .map_err(|reason| Failure::reason(reason, Why::of_given(m, SHARES_MIN, &entries, &[], reason)))?;
     if arguments.has("--json") {
         files::answer_json(&Object::new().with("m", m).with("words", list(&output)))
     } else {

@@ -3,6 +3,7 @@
 use super::signs::{Sign, Signs};
 use super::{Fault, Place};
 use crate::design::{Design, Stage};
+use crate::sharing::{name, secret};
 use jestrunas::{SHARES_MAX, SHARES_MIN, SHARE_BITS_MAX, STAGES_MAX, TERMS_MAX, WIDTH_MAX};
 use std::collections::HashSet;
 use std::ops::RangeInclusive;
@@ -129,7 +130,7 @@ impl Reader<'_> {
         }
         let mut stage = Stage { table: Vec::new(), lists: lists.into_iter().map(Option::unwrap_or_default).collect() };
         // share 1 is x, the others are 0
-        stage.table = table.unwrap_or_else(|| (0..1 << self.m).map(|x| stage.sum(self.m, x)).collect());
+        stage.table = table.unwrap_or_else(|| (0..1 << self.m).map(|x| secret(self.m, self.s, stage.output(x))).collect());
         Ok(stage)
     }
 
@@ -138,15 +139,11 @@ impl Reader<'_> {
         let (place, bit) = self.bit()?;
         let list = &mut lists[bit];
         if list.is_some() {
-            return fault(place, format!("{} stands in this stage before", self.name("y", bit)));
+            return fault(place, format!("{} stands in this stage before", name('y', self.m, bit)));
         }
         self.mark('=')?;
         *list = Some(self.formula()?);
         self.line_end(SIGN)
-    }
-
-    fn name(&self, letter: &str, bit: usize) -> String {
-        format!("{letter}{}[{}]", bit / self.m + 1, bit % self.m)
     }
 
     /// Bit b of share j, with its place: a letter, j, and b in brackets. Answers (j - 1) * m + b.
@@ -214,7 +211,7 @@ impl Reader<'_> {
         loop {
             let (place, bit) = self.bit()?;
             if term >> bit & 1 == 1 {
-                return fault(place, format!("{} stands in this term before", self.name("x", bit)));
+                return fault(place, format!("{} stands in this term before", name('x', self.m, bit)));
             }
             term |= 1 << bit;
             let marked = self.go_on(&['·', '*']);

@@ -1,6 +1,7 @@
 //! A design as text.
 
 use crate::design::{Design, Stage};
+use crate::sharing::{name, term};
 use std::fmt::Write;
 
 /// No line is longer, but where one term is.
@@ -25,14 +26,6 @@ fn wrapped(text: &mut String, start: &str, parts: impl Iterator<Item = String>) 
 
 fn table(text: &mut String, name: &str, entries: &[u8]) {
     wrapped(text, name, entries.iter().map(|entry| format!(" {entry}")));
-}
-
-fn term(m: usize, term: u32) -> String {
-    if term == 0 {
-        return "1".to_owned();
-    }
-    let variables = (0..u32::BITS as usize).filter(|bit| term >> bit & 1 == 1);
-    variables.map(|bit| format!("x{}[{}]", bit / m + 1, bit % m)).collect::<Vec<_>>().join("·")
 }
 
 fn formula(text: &mut String, start: &str, m: usize, list: &[u32]) {
@@ -60,7 +53,7 @@ pub fn written(design: &Design) -> String {
         text.push_str("\nstage\n");
         table(&mut text, "G", &stage.table);
         for (i, list) in stage.lists.iter().enumerate() {
-            formula(&mut text, &format!("y{}[{}]", i / m + 1, i % m), *m, list);
+            formula(&mut text, &name('y', *m, i), *m, list);
         }
     }
     text
@@ -79,13 +72,16 @@ fn grid(text: &mut String, design: &Design, stage: &Stage) {
     }
 }
 
-/// The text of a design, then, as comments, for each stage the shares on which its components depend, and the verdict.
-pub fn explained(design: &Design, verdict: &str) -> String {
+/// The text of a design, then, as comments, for each stage the shares on which its components depend, the verdict, and what else is told.
+pub fn explained(design: &Design, verdict: &str, why: &[String]) -> String {
     let mut text = written(design);
     for (i, stage) in design.stages.iter().enumerate() {
         let _ = writeln!(text, "\n# stage {}: each component, and the shares on which it depends", i + 1);
         grid(&mut text, design, stage);
     }
     let _ = writeln!(text, "\n# verdict: {verdict}");
+    for line in why {
+        let _ = writeln!(text, "#   {line}");
+    }
     text
 }

@@ -15,6 +15,17 @@ fn explain() {
 #  y3  x  x  .
 
 # verdict: 13 1 2, 512 trials: component 2 of stage 1 depends on every share
+#   share 2 stands in 1 term: y2[0]: x2[1]·x2[2]; component 1 or 3 may have it
+#   share 1 stands in 2 terms: 2 of y2[0]
+#     y2[0]: x1[2]·x3[1]; no other component may have it
+#     y2[0]: x1[1]·x3[2]; no other component may have it
+#   share 3 stands in 6 terms: 4 of y2[0], 1 of y2[1] and 1 of y2[2]
+#     y2[0]: x3[0]; component 1 may have it
+#     y2[0]: x1[2]·x3[1]; no other component may have it
+#     y2[0]: x1[1]·x3[2]; no other component may have it
+#     y2[0]: x3[1]·x3[2]; component 1 may have it
+#     y2[1]: x3[1]; component 1 may have it
+#     y2[2]: x3[2]; component 1 may have it
 ";
     assert!(leaks.out.ends_with(grid), "{}", leaks.out);
     // a long formula goes on in a line of its own

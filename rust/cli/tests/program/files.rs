@@ -68,11 +68,13 @@ fn what_fails_writes_no_file() {
         refuses(&format!("jestrunas assemble {text} -o {file}"), &format!("jestrunas: {text}:{due}"));
         refuses(
             &format!("jestrunas produce -m 4 -s 3 0123456789ABCDFE -o {file}"),
-            "jestrunas: 16: the degree is the number of shares or more",
+            "jestrunas: 16: the degree is the number of shares or more: bit 0 has degree 3 by x[1]·x[2]·x[3], bit 1 has degree 1 by \
+             x[1], bit 2 has degree 1 by x[2] and bit 3 has degree 1 by x[3]; 4 shares would do",
         );
         refuses(
             &format!("jestrunas join designs/d.bin designs/box3.bin -o {file}"),
-            "jestrunas: 19: the widths or the share counts of the two designs differ",
+            "jestrunas: 19: the widths or the share counts of the two designs differ: m is 1 and s is 3 in the first, m is 3 and s is 3 in \
+             the second",
         );
     }
     assert_eq!(std::fs::read(&old).unwrap(), b"what was there");

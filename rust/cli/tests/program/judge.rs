@@ -42,22 +42,29 @@ fn judge_says_what_the_samples_say() {
 #[test]
 fn judge_tells_each_refusal() {
     let end = [0, 0, 4, 0];
-    for (file, due) in [
-        (vec![3, 0, 1], "1 0 0, 0 trials: the record at byte 0 is cut short"),
-        (one_bit([0, 1], [0, 1], &[0, 0, 2, 0]), "2 43 0, 0 trials: the kind of the record at byte 43 is not the one due"),
-        (one_bit([0, 1], [0, 1], &[1, 0, 4, 0]), "3 43 0, 0 trials: the length of the record at byte 43 is not the one due"),
-        (vec![3, 0, 1, 0, 7, 3, 1], "4 0 0, 0 trials: a number of the head breaks a limit"),
-        (one_bit([0, 1], [0, 2], &end), "5 13 0, 0 trials: the table at byte 13 has an entry that is 2^m or more"),
+    for (file, due, why) in [
+        (vec![3, 0, 1], "1 0 0, 0 trials: the record at byte 0 is cut short", ""),
+        (one_bit([0, 1], [0, 1], &[0, 0, 2, 0]), "2 43 0, 0 trials: the kind of the record at byte 43 is not the one due", ""),
+        (one_bit([0, 1], [0, 1], &[1, 0, 4, 0]), "3 43 0, 0 trials: the length of the record at byte 43 is not the one due", ""),
+        (vec![3, 0, 1, 0, 7, 3, 1], "4 0 0, 0 trials: a number of the head breaks a limit", "m is 7, and 1 to 6 are allowed"),
+        (one_bit([0, 1], [0, 2], &end), "5 13 0, 0 trials: the table at byte 13 has an entry that is 2^m or more", "the entry of 1 is 2, at most 1, which is 2^m - 1"),
         (
             [&one_bit([0, 1], [0, 1], &[])[..35], &[4, 0, 3, 0, 8, 0, 0, 0]].concat(),
             "6 35 0, 0 trials: the list at byte 35 has a term beyond m * s or one that does not rise",
+            "",
         ),
-        (one_bit([0, 1], [0, 1], &[0, 0, 4, 0, 7]), "7 47 0, 0 trials: bytes follow the end, from byte 47"),
-        (one_bit([1, 1], [0, 1], &end), "8 0 0, 0 trials: the box repeats an entry"),
-        (one_bit([1, 0], [0, 1], &end), "10 0 0, 0 trials: the chain of tables is not S"),
-        (one_bit([1, 0], [1, 0], &end), "12 1 0, 1 trial: stage 1 is not correct"),
+        (one_bit([0, 1], [0, 1], &[0, 0, 4, 0, 7]), "7 47 0, 0 trials: bytes follow the end, from byte 47", ""),
+        (one_bit([1, 1], [0, 1], &end), "8 0 0, 0 trials: the box repeats an entry", "S(0) and S(1) are both 1"),
+        (one_bit([1, 0], [0, 1], &end), "10 0 0, 0 trials: the chain of tables is not S", "at 0 the chain gives 0, S has 1; table by table 0 → 0"),
+        (
+            one_bit([1, 0], [1, 0], &end),
+            "12 1 0, 1 trial: stage 1 is not correct",
+            "stage 1, bit 0: the product 1 stands in no component; the shares 0 0 0 of 0 become 0 0 0, which sum to 0, and G(0) is 1",
+        ),
     ] {
         assert_eq!(shell_with("jestrunas judge -", &file), shown(1, &format!("-: {due}\n"), ""));
+        let why = if why.is_empty() { String::new() } else { format!("  {why}\n") };
+        assert_eq!(shell_with("jestrunas judge --why -", &file), shown(1, &format!("-: {due}\n{why}"), ""));
     }
     // 13 and 14 are those of samples
 }

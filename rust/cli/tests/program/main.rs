@@ -9,4 +9,5 @@ mod page;
 mod pages;
 mod samples;
 mod shell;
+mod why;
 mod words;

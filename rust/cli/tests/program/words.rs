@@ -136,7 +136,7 @@ fn refusals_as_json() {
             1,
             r#"{"file":"-","reason":2,"place":0,"component":0,"words":"the kind of the record at byte 0 is not the one due"}"#,
         ),
-        ("produce -s 3 00 -o none", 1, r#"{"reason":8,"words":"the box repeats an entry"}"#),
+        ("produce -s 3 00 -o none", 1, r#"{"reason":8,"words":"the box repeats an entry","why":{"at":[0,1],"entry":0}}"#),
         ("forecast none.bin", 2, r#"{"file":"none.bin","error":"No such file or directory (os error 2)"}"#),
         (
             "assemble - -o none < /dev/null",
@@ -146,7 +146,7 @@ fn refusals_as_json() {
         (
             "join designs/d.bin designs/box3.bin -o none",
             1,
-            r#"{"reason":19,"words":"the widths or the share counts of the two designs differ"}"#,
+            r#"{"reason":19,"words":"the widths or the share counts of the two designs differ","why":{"m":[1,3],"s":[3,3]}}"#,
         ),
     ] {
         let (command, rest) = line.split_once(' ').unwrap();

@@ -179,7 +179,7 @@ fn main() {
         let k = 1 + random.below(4);
         let design = make::design(&mut random, m, s, k);
         let file = encode(&design);
-        let explained = text::explained(&Design::read(&file).expect("it reads"), "none is asked for");
+        let explained = text::explained(&Design::read(&file).expect("it reads"), "none is asked for", &[]);
         let hand = by_hand(&mut random, &design);
         for text in [&explained, &hand] {
             match text::assemble(text.as_bytes()) {
