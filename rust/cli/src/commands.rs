@@ -16,8 +16,8 @@ use crate::arguments::Arguments;
 use crate::command::Command;
 use crate::design::Design;
 use crate::failure::{tell, Failure, DONE};
+use crate::input::Input;
 use crate::json::Object;
-use crate::why::Why;
 use crate::{files, near, pages};
 use std::ffi::{OsStr, OsString};
 use std::process::ExitCode;
@@ -45,11 +45,9 @@ pub fn run(words: &[OsString]) -> ExitCode {
         Err(failure) => failure,
     };
     match &failure {
-        // where JSON cannot be printed, the status still says it
-        Failure::Refused(told) | Failure::Unavailable(told) if json => drop(files::answer_json(&told.json)),
-        Failure::Refused(told) | Failure::Unavailable(told) => tell(&format!("jestrunas: {}\n", told.words)),
         Failure::Misused(words) => tell(&pages::misused(command, words)),
-        Failure::Unread => {}
+        // where JSON cannot be printed, the status still says it
+        other => drop(other.tell(json)),
     }
     ExitCode::from(failure.status())
 }
@@ -96,18 +94,18 @@ fn named(name: &OsStr) -> Result<&'static Command, Failure> {
     })
 }
 
-/// The first bytes of an input, all that its operation can need.
-fn read(name: &OsStr) -> Result<Vec<u8>, Failure> {
-    files::input(name, files::DESIGN).map_err(|error| Failure::unavailable(name, error))
+/// The file of a design or a text. What a text leaves out is told.
+fn read(name: &OsStr) -> Result<Input, Failure> {
+    let input = Input::of(name)?;
+    input.warn();
+    Ok(input)
 }
 
-/// The design of a file, and the file.
+/// The design of a file or a text, and its file.
 fn read_design(name: &OsStr) -> Result<(Vec<u8>, Design), Failure> {
-    let file = read(name)?;
-    match Design::read(&file) {
-        Ok(design) => Ok((file, design)),
-        Err(refusal) => Err(Failure::unread_design(name, &refusal, Why::of_unread(&file, &refusal))),
-    }
+    let input = read(name)?;
+    let design = input.design(name)?;
+    Ok((input.file, design))
 }
 
 /// Writes the file that a command makes, over none of its inputs; as JSON it answers where, how long, and what else there is to say.

@@ -1,6 +1,6 @@
 //! How a command ends that does not do what it was asked.
 
-use crate::files::shown;
+use crate::files::{answer_json, shown};
 use crate::json::Object;
 use crate::why::Why;
 use jestrunas::{Reason, Refusal};
@@ -73,6 +73,16 @@ impl Failure {
     pub fn unavailable(file: &OsStr, why: impl Display) -> Failure {
         let json = Object::new().with_file(file).with("error", why.to_string());
         Failure::Unavailable(Told { words: format!("{}: {why}", shown(file)), json })
+    }
+
+    /// Tells an input that is refused or a file that cannot be had: on standard error, or as a line of JSON.
+    pub fn tell(&self, json: bool) -> Result<(), Failure> {
+        match self {
+            Failure::Refused(told) | Failure::Unavailable(told) if json => drop(answer_json(&told.json)?),
+            Failure::Refused(told) | Failure::Unavailable(told) => tell(&format!("jestrunas: {}\n", told.words)),
+            Failure::Misused(_) | Failure::Unread => {}
+        }
+        Ok(())
     }
 
     pub fn status(&self) -> u8 {

@@ -6,6 +6,7 @@ mod commands;
 mod design;
 mod failure;
 mod files;
+mod input;
 mod json;
 mod near;
 mod pages;

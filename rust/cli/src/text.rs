@@ -1,10 +1,12 @@
 //! The text of a design, as docs/TEXT.md has it.
 
-mod assemble;
+mod formula;
+mod reader;
 mod signs;
+mod stage;
 mod write;
 
-pub use assemble::assemble;
+pub use reader::{assemble, read, Text};
 pub use write::{explained, sum, written};
 
 use std::fmt;

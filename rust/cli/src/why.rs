@@ -48,7 +48,7 @@ impl Why {
         let stage = refusal.place.wrapping_sub(1);
         match refusal.reason {
             Reason::BoxRepeats => Repeats::of(&design.s_box).map(Why::Repeats),
-            Reason::ChainIsNotBox => Chain::of(design).map(Why::Chain),
+            Reason::ChainIsNotBox => Chain::of(design, guessed).map(Why::Chain),
             Reason::NotCorrect => Difference::of(design, stage, guessed.get(stage) == Some(&true)).map(Why::Difference),
             Reason::NotNonComplete => Some(Why::Leak(Leak::of(design, stage, refusal.component - 1))),
             Reason::NotUniform => Collision::of(design, stage).map(Why::Collision),

@@ -3,10 +3,10 @@
 use super::write;
 use crate::arguments::Arguments;
 use crate::command::{Command, Operand, Words, JSON, OUTPUT};
-use crate::failure::{Failure, Told};
+use crate::failure::Failure;
+use crate::files;
+use crate::input::Input;
 use crate::json::Object;
-use crate::{files, text};
-use std::ffi::OsStr;
 
 pub const ASSEMBLE: Command = Command {
     name: "assemble",
@@ -20,18 +20,13 @@ Writes the design file of a text (docs/TEXT.md). Where the text is no design it 
     run: assemble,
 };
 
-fn refused(name: &OsStr, fault: &text::Fault) -> Failure {
-    let text::Place { line, column } = fault.place;
-    let json = Object::new().with_file(name).with("line", line).with("column", column).with("words", fault.words.as_str());
-    Failure::Refused(Told { words: format!("{}:{fault}", files::shown(name)), json })
-}
-
 fn assemble(arguments: &Arguments) -> Result<u8, Failure> {
     let name = arguments.operand(0);
-    let bytes = files::input(name, files::TEXT + 1).map_err(|error| Failure::unavailable(name, error))?;
-    if bytes.len() as u64 > files::TEXT {
-        return Err(Failure::refused(name, format!("the text is longer than {} bytes", files::TEXT)));
+    let bytes = files::input(name).map_err(|error| Failure::unavailable(name, error))?;
+    if files::is_design(&bytes) {
+        return Err(Failure::refused(name, "it is a design file already"));
     }
-    let design = text::assemble(&bytes).map_err(|fault| refused(name, &fault))?;
-    write(arguments, &design.file(), &[name], Object::new())
+    let input = Input::of_text(name, &bytes)?;
+    input.warn();
+    write(arguments, &input.file, &[name], Object::new())
 }

@@ -1,10 +1,9 @@
 //! The command `explain`.
 
-use super::read_design;
+use super::read;
 use crate::arguments::Arguments;
 use crate::command::{Command, DESIGN, JSON};
 use crate::failure::Failure;
-use crate::why::Why;
 use crate::{files, text, verdict};
 
 pub const EXPLAIN: Command = Command {
@@ -41,12 +40,13 @@ y3[0] = x1[0]
 
 fn explain(arguments: &Arguments) -> Result<u8, Failure> {
     let name = arguments.operand(0);
-    let (file, design) = read_design(name)?;
-    let verdict = jestrunas::judge(&file);
-    let why = verdict.as_ref().err().and_then(|refusal| Why::of(&design, &[], refusal));
+    let input = read(name)?;
+    let design = input.design(name)?;
+    let (verdict, why) = input.judged();
     if arguments.has("--json") {
         files::answer_json(&verdict::json(name, &verdict, why.as_ref()).and(design.json()))
     } else {
-        files::answer(&text::explained(&design, &verdict::words(&verdict), &why.map_or(Vec::new(), |why| why.lines())))
+        let lines = why.map_or(Vec::new(), |why| why.lines());
+        files::answer(&text::explained(&design, &verdict::words(&verdict), &lines))
     }
 }

@@ -5,6 +5,7 @@ use crate::arguments::Arguments;
 use crate::command::{Command, DESIGN, JSON};
 use crate::failure::Failure;
 use crate::files;
+use crate::input::Input;
 use crate::json::Object;
 use crate::why::{Given, Why};
 use jestrunas::Reason;
@@ -28,7 +29,7 @@ trials 16
 
 fn forecast(arguments: &Arguments) -> Result<u8, Failure> {
     let name = arguments.operand(0);
-    let file = read(name)?;
+    let Input { file, .. } = read(name)?;
     let forecast = jestrunas::forecast(&file).map_err(|reason| {
         let why = if reason == Reason::LimitBroken { Given::head(&file).map(Why::Given) } else { None };
         Failure::file_reason(name, reason, why)

@@ -2,9 +2,8 @@
 
 use crate::arguments::Arguments;
 use crate::command::{Command, Operand, Switch, Words, JSON};
-use crate::design::Design;
-use crate::failure::{tell, Failure, DONE, REFUSED, WRONG};
-use crate::json::Object;
+use crate::failure::{tell, Failure, DONE, REFUSED};
+use crate::input::Input;
 use crate::why::Why;
 use crate::{files, verdict};
 use jestrunas::Verdict;
@@ -58,18 +57,15 @@ impl Progress {
 
 /// A file that was judged, and what is wrong with it where that is asked for.
 struct Judged {
+    warnings: Vec<String>,
     verdict: Verdict,
     why: Option<Why>,
 }
 
-fn judge_file(name: &OsStr, why: bool) -> io::Result<Judged> {
-    let file = files::input(name, files::DESIGN)?;
-    let verdict = jestrunas::judge(&file);
-    let why = verdict.as_ref().err().filter(|_| why).and_then(|refusal| match Design::read(&file) {
-        Ok(design) => Why::of(&design, &[], refusal),
-        Err(_) => Why::of_unread(&file, refusal),
-    });
-    Ok(Judged { verdict, why })
+fn judge_file(name: &OsStr, why: bool) -> Result<Judged, Failure> {
+    let input = Input::of(name)?;
+    let (verdict, why) = if why { input.judged() } else { (jestrunas::judge(&input.file), None) };
+    Ok(Judged { warnings: input.warnings, verdict, why })
 }
 
 fn judge(arguments: &Arguments) -> Result<u8, Failure> {
@@ -82,29 +78,26 @@ fn judge(arguments: &Arguments) -> Result<u8, Failure> {
         progress.show(i);
         let judged = judge_file(name, arguments.has("--why"));
         progress.clear();
-        status = status.max(print(name, &judged, json)?);
+        status = status.max(print(name, judged, json)?);
     }
     Ok(status)
 }
 
 /// Prints what became of a file, and answers its exit status.
-fn print(name: &OsStr, judged: &io::Result<Judged>, json: bool) -> Result<u8, Failure> {
-    let line = files::shown(name);
-    match judged {
-        Ok(Judged { verdict, why }) if json => files::answer_json(&verdict::json(name, verdict, why.as_ref()))?,
-        Ok(Judged { verdict, why }) => {
-            let why = why.as_ref().map_or(String::new(), |why| format!("  {}\n", why.line()));
-            files::answer(&format!("{line}: {}\n{why}", verdict::words(verdict)))?
-        }
-        Err(error) if json => files::answer_json(&Object::new().with_file(name).with("error", error.to_string()))?,
-        Err(error) => {
-            tell(&format!("jestrunas: {line}: {error}\n"));
-            WRONG
+fn print(name: &OsStr, judged: Result<Judged, Failure>, json: bool) -> Result<u8, Failure> {
+    let Judged { warnings, verdict, why } = match judged {
+        Ok(judged) => judged,
+        Err(failure) => {
+            failure.tell(json)?;
+            return Ok(failure.status());
         }
     };
-    Ok(match judged {
-        Ok(Judged { verdict: Ok(_), .. }) => DONE,
-        Ok(_) => REFUSED,
-        Err(_) => WRONG,
-    })
+    warnings.iter().for_each(|line| tell(&format!("jestrunas: {line}\n")));
+    if json {
+        files::answer_json(&verdict::json(name, &verdict, why.as_ref()))?;
+    } else {
+        let why = why.map_or(String::new(), |why| format!("  {}\n", why.line()));
+        files::answer(&format!("{}: {}\n{why}", files::shown(name), verdict::words(&verdict)))?;
+    }
+    Ok(if verdict.is_ok() { DONE } else { REFUSED })
 }

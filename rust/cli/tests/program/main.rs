@@ -9,5 +9,6 @@ mod page;
 mod pages;
 mod samples;
 mod shell;
+mod texts;
 mod why;
 mod words;

@@ -114,7 +114,7 @@ fn forecast() {
         refuses(&format!("{head} forecast -"), &format!("jestrunas: -: 4: a number breaks a limit: {words}"));
         refuses(&format!("{head} explain -"), &format!("jestrunas: -: 4 0 0: a number of the head breaks a limit: {words}"));
     }
-    refuses("jestrunas forecast designs/verdicts.txt", "jestrunas: designs/verdicts.txt: 2: a record's kind is not the one due");
+    refuses("printf '\\3\\0\\2\\0\\1\\3\\1' | jestrunas forecast -", "jestrunas: -: 2: a record's kind is not the one due");
     tells("jestrunas forecast none.bin", 2, &format!("jestrunas: none.bin: {NO_FILE}"));
 }
 

@@ -132,7 +132,7 @@ fn answers_as_json() {
 fn refusals_as_json() {
     for (line, status, due) in [
         (
-            "explain - < designs/verdicts.txt",
+            "explain - < /dev/zero",
             1,
             r#"{"file":"-","reason":2,"place":0,"component":0,"words":"the kind of the record at byte 0 is not the one due"}"#,
         ),
