@@ -36,6 +36,14 @@ fn record(file: &mut Vec<u8>, kind: u8, body: &[u8]) {
     file.extend(body);
 }
 
+/// Puts a term into its place in a list, or takes it out where it stands there.
+pub fn flip(list: &mut Vec<u32>, term: u32) {
+    match list.binary_search(&term) {
+        Ok(i) => drop(list.remove(i)),
+        Err(i) => list.insert(i, term),
+    }
+}
+
 impl Stage {
     /// Whether a component depends on a share, both counted from 0. Each function has one list, so it depends on the variables that its
     /// terms name, and on no other.

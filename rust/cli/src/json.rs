@@ -9,7 +9,6 @@ pub enum Json {
     Null,
     Flag(bool),
     Number(usize),
-    /// Printed with three places behind the point.
     Real(f64),
     Text(String),
     List(Vec<Json>),
@@ -104,6 +103,12 @@ impl<T: Into<Json>> From<Option<T>> for Json {
     }
 }
 
+/// A number that was measured or estimated, with two digits that count.
+pub fn real(number: f64) -> String {
+    let places = if number > 0.0 { (1.0 - number.log10().floor()).clamp(0.0, 12.0) as usize } else { 0 };
+    format!("{number:.places$}")
+}
+
 fn quoted(f: &mut fmt::Formatter<'_>, text: &str) -> fmt::Result {
     f.write_char('"')?;
     for c in text.chars() {
@@ -122,7 +127,7 @@ impl fmt::Display for Json {
             Json::Null => f.write_str("null"),
             Json::Flag(flag) => write!(f, "{flag}"),
             Json::Number(number) => write!(f, "{number}"),
-            Json::Real(number) => write!(f, "{number:.3}"),
+            Json::Real(number) => f.write_str(&real(*number)),
             Json::Text(text) => quoted(f, text),
             Json::List(values) => {
                 f.write_char('[')?;
@@ -143,5 +148,26 @@ impl fmt::Display for Object {
             write!(f, "{}\"{name}\":{value}", if i == 0 { "" } else { "," })?;
         }
         f.write_char('}')
+    }
+}
+
+#[cfg(test)]
+mod tests {
+    use super::*;
+
+    #[test]
+    fn two_digits_count() {
+        for (number, due) in
+            [(0.0, "0"), (0.000_004_56, "0.0000046"), (0.5, "0.50"), (1.26, "1.3"), (12.6, "13"), (1234.5, "1234")]
+        {
+            assert_eq!(real(number), due);
+        }
+    }
+
+    #[test]
+    fn objects() {
+        let object = Object::new().with("a", "\"\n\\é").with("b", None::<usize>).with("c", list(&[1u8, 2])).with("d", true);
+        let text = r#"{"a":"\"\u000a\\é","b":null,"c":[1,2],"d":true}"#;
+        assert_eq!(object.to_string(), text);
     }
 }

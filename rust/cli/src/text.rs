@@ -7,7 +7,7 @@ mod stage;
 mod write;
 
 pub use reader::{assemble, read, Text};
-pub use write::{explained, sum, written};
+pub use write::{explained, polynomial, polynomials, sum, written};
 
 use std::fmt;
 

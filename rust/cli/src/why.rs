@@ -10,7 +10,7 @@ mod repeats;
 
 pub use chain::Chain;
 pub use collision::Collision;
-pub use degree::Degrees;
+pub use degree::{product, Degrees};
 pub use difference::{Difference, Product};
 pub use given::Given;
 pub use leak::{Leak, Named, Placed};

@@ -1,14 +1,16 @@
 //! The command `judge`.
 
-use crate::arguments::Arguments;
+use crate::arguments::{number, Arguments};
 use crate::command::{Command, Operand, Switch, Words, JSON};
 use crate::failure::{tell, Failure, DONE, REFUSED};
 use crate::input::Input;
+use crate::progress::Progress;
+use crate::side_by_side::in_order;
 use crate::why::Why;
 use crate::{files, verdict};
 use jestrunas::Verdict;
 use std::ffi::OsStr;
-use std::io::{self, IsTerminal};
+use std::thread;
 
 pub const JUDGE: Command = Command {
     name: "judge",
@@ -17,7 +19,11 @@ pub const JUDGE: Command = Command {
 Judges design files. Prints a line a file: its reason, place and component, the trials that the verdict took, and the verdict in words. \
 With --json each line is an object of JSON: file, reason, place, component, trials, words; or file, error where the file cannot be had.",
     operands: &[Operand::some("FILE", "a design file").offers(Words::Files)],
-    options: &[Switch::flag(&["--why"], "tells in one more line what of a refused design is the cause"), JSON],
+    options: &[
+        Switch::flag(&["--why"], "tells in one more line what of a refused design is the cause"),
+        Switch::valued(&["-j", "--jobs"], "N", "judges N files side by side; else as many as there are processors"),
+        JSON,
+    ],
     status: "0 all are accepted, 1 one is refused, 2 one cannot be had.",
     example: "\
 $ jestrunas judge --why designs/d.bin designs/leaks.bin
@@ -27,33 +33,6 @@ designs/leaks.bin: 13 1 2, 512 trials: component 2 of stage 1 depends on every s
 ",
     run: judge,
 };
-
-/// How many files make a list long.
-const LONG: usize = 20;
-
-/// How far a long list is, on a terminal: a line of standard error that the next one takes the place of.
-struct Progress {
-    shown: bool,
-    count: usize,
-}
-
-impl Progress {
-    fn of(count: usize) -> Progress {
-        Progress { shown: count >= LONG && io::stderr().is_terminal(), count }
-    }
-
-    fn show(&self, i: usize) {
-        if self.shown {
-            tell(&format!("\r\x1b[K{} of {}", i + 1, self.count));
-        }
-    }
-
-    fn clear(&self) {
-        if self.shown {
-            tell("\r\x1b[K");
-        }
-    }
-}
 
 /// A file that was judged, and what is wrong with it where that is asked for.
 struct Judged {
@@ -68,18 +47,34 @@ fn judge_file(name: &OsStr, why: bool) -> Result<Judged, Failure> {
     Ok(Judged { warnings: input.warnings, verdict, why })
 }
 
+/// As many files are judged side by side as are asked for, or as there are processors.
+fn jobs(arguments: &Arguments) -> Result<usize, Failure> {
+    match arguments.value("-j").map(|word| number("--jobs", word)).transpose()? {
+        Some(0) => Err(Failure::Misused("--jobs is 0, and 1 is the least".to_owned())),
+        Some(jobs) => Ok(jobs),
+        None => Ok(thread::available_parallelism().map_or(1, usize::from)),
+    }
+}
+
 fn judge(arguments: &Arguments) -> Result<u8, Failure> {
     let names = &arguments.operands;
     files::each_once(names)?;
-    let json = arguments.has("--json");
+    let (json, why, jobs) = (arguments.has("--json"), arguments.has("--why"), jobs(arguments)?);
     let progress = Progress::of(names.len());
     let mut status = DONE;
-    for (i, name) in names.iter().enumerate() {
-        progress.show(i);
-        let judged = judge_file(name, arguments.has("--why"));
-        progress.clear();
-        status = status.max(print(name, judged, json)?);
-    }
+    in_order(
+        names.len(),
+        jobs,
+        |i| judge_file(&names[i], why),
+        |done, ready| {
+            progress.clear();
+            for (i, judged) in ready {
+                status = status.max(print(&names[i], judged, json)?);
+            }
+            progress.show(done);
+            Ok(())
+        },
+    )?;
     Ok(status)
 }
 

@@ -100,6 +100,19 @@ fn judge_as_json() {
 }
 
 #[test]
+fn judging_side_by_side_prints_in_order() {
+    // the first ones take longest, and one cannot be had
+    let names = ["keccak4", "keccak4_placed", "none", "placed", "present", "box3", "leaks", "d"]
+        .map(|name| format!("designs/{name}.bin"));
+    let files = names.join(" ");
+    let one = shell(&format!("jestrunas judge --why --jobs 1 {files}"));
+    assert_eq!((one.status, one.out.lines().count()), (2, 8));
+    for jobs in ["-j2", "--jobs=4", "--jobs 100", ""] {
+        assert_eq!(shell(&format!("jestrunas judge --why {jobs} {files}")), one, "{jobs}");
+    }
+}
+
+#[test]
 fn progress_shows_on_a_terminal_alone() {
     let files = "designs/d.bin ".repeat(20);
     let lines = "designs/d.bin: 0 1 0, 16 trials: accepted, 1 stage\n".repeat(20);
@@ -112,11 +125,14 @@ fn progress_shows_on_a_terminal_alone() {
         assert_eq!(std::fs::read_to_string(out).unwrap().lines().count(), files.split_whitespace().count());
         terminal.out
     };
-    let shown: String = (1..=20).map(|i| format!("\r\x1b[K{i} of 20\r\x1b[K")).collect();
-    assert_eq!(on_terminal(&files), shown);
+    let clear = "\r\x1b[K";
+    let shown: String = (1..20).map(|i| format!("{clear}{i} of 20, 1 s left{clear}")).collect();
+    assert_eq!(on_terminal(&files), format!("{clear}{shown}"));
     // a list that is not long
     assert_eq!(on_terminal("designs/d.bin"), "");
     // both are a terminal: a line takes the place of the progress before it
     let both = shell(&format!("script -qec 'jestrunas judge {files}' /dev/null < /dev/null")).out;
-    assert!(both.starts_with("\r\x1b[K1 of 20\r\x1b[Kdesigns/d.bin: 0 1 0"), "{both}");
+    let line = "designs/d.bin: 0 1 0, 16 trials: accepted, 1 stage\r\n";
+    assert_eq!(both.matches(line).count(), 20);
+    assert_eq!(both.replace(line, ""), format!("{clear}{shown}"));
 }

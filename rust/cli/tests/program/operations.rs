@@ -102,7 +102,21 @@ fn run() {
 
 #[test]
 fn forecast() {
-    prints("jestrunas forecast designs/keccak4.bin", "workspace 131072\ntrials 2097152\n");
+    prints("jestrunas forecast designs/keccak4.bin | head -n 3", "workspace 131072\ntrials 2097152\nterms 120\n");
+    prints("jestrunas forecast designs/keccak4.bin | tail -n 1 | grep -cE '^seconds [0-9.]+$'", "1\n");
+    prints(
+        "jestrunas forecast --json designs/keccak4.bin | sed 's/\"seconds\":[0-9.]*[1-9][0-9.]*/SECONDS/'",
+        "{\"file\":\"designs/keccak4.bin\",\"workspace\":131072,\"trials\":2097152,\"terms\":120,SECONDS}\n",
+    );
+    // the head record is enough, and of a file that does not read there is no more
+    prints("head -c 7 designs/keccak4.bin | jestrunas forecast -", "workspace 131072\ntrials 2097152\n");
+    prints("head -c 100 designs/keccak4.bin | jestrunas forecast -", "workspace 131072\ntrials 2097152\n");
+    // a design of which no sharing is tried, since a table repeats an entry, and one that is not correct
+    for stage in ["G 00", "G 10\\ny1[0] = x2[0]·x3[0]", "y1[0] = x1[0]"] {
+        let terms = usize::from(stage.contains('x'));
+        let text = format!("printf 'm 1\\ns 3\\nS 01\\nstage\\n{stage}\\n'");
+        prints(&format!("{text} | jestrunas forecast - | head -n 3"), &format!("workspace 1\ntrials 16\nterms {terms}\n"));
+    }
     refuses("head -c 6 designs/d.bin | jestrunas forecast -", "jestrunas: -: 1: a record is cut short");
     for (numbers, words) in [
         ("\\7\\3\\1", "m is 7, and 1 to 6 are allowed"),
@@ -159,6 +173,20 @@ fn transform() {
     );
     let twice = "jestrunas transform 5 $(jestrunas transform 5 1109171B18021D13051C0B06140F1916120304011F0C0A0D00101E1A1507080E)";
     prints(twice, "1109171B18021D13051C0B06140F1916120304011F0C0A0D00101E1A1507080E\n");
+    let formulas = "G[0] = x[0] + x[1]·x[2]  # degree 2\nG[1] = x[1]  # degree 1\nG[2] = x[2]  # degree 1\n";
+    prints("jestrunas transform --formulas 01234576", formulas);
+    prints("jestrunas transform 1 --formulas 00", "G[0] = 0  # degree 0\n");
+    prints("jestrunas transform 1 --formulas 11", "G[0] = 1  # degree 0\n");
+    prints(
+        "jestrunas transform --formulas --json 10",
+        "{\"m\":1,\"words\":[1,1],\"formulas\":[{\"formula\":\"1 + x[0]\",\"degree\":1}]}\n",
+    );
+    // they are lines for a text
+    let keccak = "0009120B050C160F0A0318010D041E0714150617111002131A1B08191D1C0E1F";
+    let text = format!("printf 'm 5\\ns 3\\nS {keccak}\\nstage\\n'; jestrunas transform --formulas {keccak}");
+    let packed = shell(&format!("({text}) | jestrunas explain --json - | grep -o '\"G\":[^]]*'")).out;
+    let numbers: Vec<String> = (0..32).map(|x| u8::from_str_radix(&keccak[2 * x..2 * x + 2], 16).unwrap().to_string()).collect();
+    assert_eq!(packed, format!("\"G\":[{}\n", numbers.join(",")));
     refuses("jestrunas transform 7 01", "jestrunas: 4: a number breaks a limit: m is 7, and 1 to 6 are allowed");
     refuses("jestrunas transform 1 012", "jestrunas: 3: a length is not the one due: 3 entries of 2, which is 2^m");
     refuses(

@@ -23,7 +23,8 @@ fn help() {
     for command in commands {
         let name = command.split(' ').next().unwrap();
         let page = shell(&format!("jestrunas {name} --help"));
-        assert_eq!((page.status, page.err.as_str(), examples_work(&page.out)), (0, "", 1), "{name}");
+        assert_eq!((page.status, page.err.as_str()), (0, ""), "{name}");
+        assert!(examples_work(&page.out) > 0, "{name}");
         let used: Vec<&str> = page.out.lines().next().unwrap().split(' ').take(2).collect();
         assert_eq!(used, ["jestrunas", name]);
         assert!(page.out.lines().all(|line| line.len() <= 100));

@@ -93,7 +93,7 @@ fn every_command_that_reads_a_design_takes_a_text() {
     prints(&format!("jestrunas explain {box3} | cmp - {box3}"), "");
     prints(&format!("jestrunas run {box3} 6 1 1"), "shares 1 1 7\nsum 7\nS(6) 7\n");
     prints(&format!("jestrunas join {g} {f} -o - | cmp - designs/present.bin"), "");
-    prints(&format!("jestrunas forecast {d}"), &shell("jestrunas forecast designs/d.bin").out);
+    prints(&format!("jestrunas forecast {d} | head -n 3"), "workspace 1\ntrials 16\nterms 3\n");
     refuses("jestrunas assemble designs/d.bin -o -", "jestrunas: designs/d.bin: it is a design file already");
 }
 

@@ -16,6 +16,8 @@ fn wrong_use() {
         ("judge", "--jsno designs/d.bin", "there is no option --jsno; the nearest is --json"),
         ("judge", "--json=yes designs/d.bin", "--json takes no value"),
         ("judge", "-3 designs/d.bin", "there is no option -3"),
+        ("judge", "--jobs 0 designs/d.bin", "--jobs is 0, and 1 is the least"),
+        ("judge", "-j two designs/d.bin", "--jobs is a number, and 'two' is none"),
         ("explain", "", "a design file is due"),
         ("explain", "designs/d.bin designs/d.bin", "'designs/d.bin' is one word too many"),
         ("assemble", "-o -", "a text is due"),
@@ -72,7 +74,7 @@ fn bash_completes() {
     assert_eq!(offered("jestrunas j"), ["join", "judge"]);
     assert_eq!(offered("jestrunas help pr"), ["produce"]);
     assert_eq!(offered("jestrunas completions ''").len(), 3);
-    assert_eq!(offered("jestrunas judge --j"), ["--json"]);
+    assert_eq!(offered("jestrunas judge --js"), ["--json"]);
     assert_eq!(offered("jestrunas judge designs/present_"), ["designs/present_f.bin", "designs/present_g.bin"]);
     assert_eq!(offered("jestrunas produce -o designs/present_").len(), 2);
     // a number is not to be completed
@@ -107,7 +109,7 @@ fn the_man_page_is_set_without_a_warning() {
 #[test]
 fn answers_as_json() {
     for (line, due) in [
-        ("forecast designs/d.bin", r#"{"file":"designs/d.bin","workspace":1,"trials":16}"#),
+        ("forecast - < <(head -c 7 designs/d.bin)", r#"{"file":"-","workspace":1,"trials":16}"#),
         ("run designs/box3.bin 6 1 1", r#"{"file":"designs/box3.bin","shares":[1,1,7],"sum":7,"secret":6,"due":7}"#),
         ("transform 01234576", r#"{"m":3,"words":[0,1,2,0,4,0,1,0]}"#),
         ("produce -s 3 01234576 -o /dev/null", r#"{"file":"/dev/null","bytes":143}"#),
