@@ -99,7 +99,7 @@ impl Why {
         match self {
             Why::Repeats(why) => why.line(),
             Why::Chain(why) => why.line(),
-            Why::Difference(why) => why.lines().join("; "),
+            Why::Difference(why) => why.line(),
             Why::Leak(why) => why.line(),
             Why::Collision(why) => why.line(),
             Why::Degrees(why) => why.line(),

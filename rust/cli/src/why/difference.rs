@@ -77,11 +77,11 @@ impl Difference {
         Some(Difference { m, s, stage: number, products, sharing, output: stage.output(sharing), due, guessed })
     }
 
+    /// Where a product stands, and that it should not.
     fn product(&self, product: &Product) -> String {
         let Product { bit, term: number, components, due } = product;
-        let term = term(self.m, *number);
         let stands: Vec<String> = components.iter().map(|component| name('y', self.m, component * self.m + bit)).collect();
-        let start = format!("stage {}, bit {bit}: the product {term} stands in", self.stage + 1);
+        let start = format!("the product {} stands in", term(self.m, *number));
         let stands = row(&stands, "and");
         match (due, components.len()) {
             (true, 0) => format!("{start} no component"),
@@ -91,22 +91,41 @@ impl Difference {
         }
     }
 
-    pub fn lines(&self) -> Vec<String> {
+    /// What is told of the stage behind its products.
+    fn rest(&self) -> Vec<String> {
         let Difference { m, s, sharing, output, due, .. } = *self;
-        let mut lines: Vec<String> = self.products.iter().take(TOLD).map(|product| self.product(product)).collect();
-        lines.extend(more(self.products.len()));
         let (x, sum) = (secret(m, s, sharing), secret(m, s, output));
-        lines.push(format!(
-            "the shares {} of {x} become {}, which sum to {sum}, and G({x}) is {due}",
-            shown(m, s, sharing),
-            shown(m, s, output)
-        ));
+        let (given, made) = (shown(m, s, sharing), shown(m, s, output));
+        let mut lines: Vec<String> = more(self.products.len()).into_iter().collect();
+        lines.push(format!("the shares {given} of {x} become {made}, which sum to {sum}, and G({x}) is {due}"));
         if self.guessed {
             lines.push(
                 "G was left out and guessed: what the components sum to where share 1 is x and the others are 0".to_owned(),
             );
         }
         lines
+    }
+
+    fn place(&self, bit: usize) -> String {
+        format!("stage {}, bit {bit}: ", self.stage + 1)
+    }
+
+    /// In one line, which names each bit once.
+    pub fn line(&self) -> String {
+        let mut parts = Vec::new();
+        let mut bit = None;
+        for product in self.products.iter().take(TOLD) {
+            let place = if bit == Some(product.bit) { String::new() } else { self.place(product.bit) };
+            parts.push(place + &self.product(product));
+            bit = Some(product.bit);
+        }
+        parts.extend(self.rest());
+        parts.join("; ")
+    }
+
+    pub fn lines(&self) -> Vec<String> {
+        let told = self.products.iter().take(TOLD);
+        told.map(|product| self.place(product.bit) + &self.product(product)).chain(self.rest()).collect()
     }
 
     pub fn json(&self) -> Object {

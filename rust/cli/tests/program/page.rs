@@ -1,6 +1,6 @@
-//! The examples of docs/TEXT.md.
+//! The examples of docs/TEXT.md and docs/PROGRAM.md.
 
-use crate::shell::{root, shell_with};
+use crate::shell::{root, shell, shell_with};
 
 /// Rows `| text | answer |` with both in backquotes.
 fn row(line: &str) -> Option<(String, &str)> {
@@ -43,4 +43,17 @@ fn every_example_is_tried() {
     let heads = page.lines().filter(|line| line.starts_with("| text |")).count();
     assert_eq!(tried + heads, page.lines().filter(|line| line.starts_with("| ")).count());
     assert_eq!(heads, 3);
+}
+
+#[test]
+fn every_example_of_the_program_is_tried() {
+    let page = std::fs::read_to_string(root().join("docs/PROGRAM.md")).unwrap();
+    let lines = page.lines().filter_map(|line| line.strip_prefix("    ")).collect::<Vec<_>>().join("\n") + "\n";
+    let examples: Vec<&str> = lines.split("$ ").filter(|example| !example.is_empty()).collect();
+    assert_eq!(examples.len(), page.matches("    $ ").count());
+    for example in &examples {
+        let (line, due) = example.split_once('\n').unwrap();
+        let shown = shell(line);
+        assert_eq!((shown.out.as_str(), shown.err.as_str()), (due, ""), "{line}");
+    }
 }

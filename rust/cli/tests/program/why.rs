@@ -34,7 +34,7 @@ stage 1, bit 0: the product x2[3]·x3[2] stands in no component
 stage 1, bit 0: the product x2[3]·x3[3] stands in y1[0], and G has it not
 the shares 0 8 4 of 12 become 5 12 0, which sum to 9, and G(12) is 8
 ";
-    assert_eq!(why(&file), (lines.trim_end().replace('\n', "; "), lines.to_owned()));
+    assert_eq!(why(&file), (lines.trim_end().replace("\nstage 1, bit 0: ", "; ").replace('\n', "; "), lines.to_owned()));
     let json = shell(&format!("jestrunas judge --why --json {file}")).out;
     assert!(json.ends_with(
         "\"words\":\"stage 1 is not correct\",\"why\":{\"products\":[{\"bit\":0,\"product\":\"x2[3]·x3[2]\",\"components\":[],\"due\":true},\
