@@ -49,8 +49,8 @@ _jestrunas() {{
 {cases}  esac
   [ $COMP_CWORD -gt 1 ] || words='{}' files=''
   case $word in
-    -*) COMPREPLY=($(compgen -W \"$options\" -- \"$word\")) ;;
-    *) COMPREPLY=($(compgen -W \"$words\" -- \"$word\") $([ -z \"$files\" ] || compgen -f -- \"$word\")) ;;
+    -*) mapfile -t COMPREPLY < <(compgen -W \"$options\" -- \"$word\") ;;
+    *) mapfile -t COMPREPLY < <(compgen -W \"$words\" -- \"$word\"; [ -z \"$files\" ] || compgen -f -- \"$word\") ;;
   esac
 }}
 complete -o filenames -F _jestrunas jestrunas

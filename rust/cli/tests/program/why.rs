@@ -122,3 +122,55 @@ fn the_chain_table_by_table() {
     assert_eq!(judged, shown(1, due, ""));
     assert_eq!(sample("present.bin")[11..13], [12, 5]);
 }
+
+#[test]
+fn a_component_that_may_have_each_term_but_not_all() {
+    // y2 ignores the shares 1 and 3, and y3 ignores share 2
+    let text = "\
+m 3
+s 3
+S 0 1 2 7 4 5 6 3
+stage # bit 2 becomes x[2] + x[0]·x[1]
+y1[2] = x1[0]·x2[1] + x2[0]·x1[1] + x2[0]·x3[1] + x3[0]·x2[1]
+y2[2] = x2[2] + x2[0]·x2[1]
+y3[2] = x1[2] + x3[2] + x1[0]·x3[1] + x3[0]·x1[1] + x1[0]·x1[1] + x3[0]·x3[1]
+y2[0] = x2[0]
+y3[0] = x1[0] + x3[0]
+y2[1] = x2[1]
+y3[1] = x1[1] + x3[1]
+";
+    let explained = shell_with("jestrunas explain - 2> /dev/null", text.as_bytes()).out;
+    let due = "\
+# verdict: 13 1 1, 512 trials: component 1 of stage 1 depends on every share
+#   share 1 stands in 2 terms: 2 of y1[2]
+#     y1[2]: x1[1]·x2[0]; component 2 may have it
+#     y1[2]: x1[0]·x2[1]; component 2 may have it
+#   share 3 stands in 2 terms: 2 of y1[2]
+#     y1[2]: x2[1]·x3[0]; component 2 may have it
+#     y1[2]: x2[0]·x3[1]; component 2 may have it
+#   share 2 stands in 4 terms: 4 of y1[2]
+#     y1[2]: x1[1]·x2[0]; component 2 may have it
+#     y1[2]: x1[0]·x2[1]; component 2 may have it
+#     y1[2]: x2[1]·x3[0]; component 2 may have it, but not with those before
+#     y1[2]: x2[0]·x3[1]; component 2 may have it, but not with those before
+";
+    assert!(explained.ends_with(due), "{explained}");
+    let json = shell_with("jestrunas judge --why --json - 2> /dev/null", text.as_bytes()).out;
+    assert!(json.contains("{\"bit\":2,\"term\":\"x2[1]·x3[0]\",\"to\":[],\"alone\":[2]}"), "{json}");
+}
+
+#[test]
+fn a_product_in_all_components() {
+    let text = "m 1\ns 3\nS 01\nstage\nG 01\ncyclic\ny1[0] = ~x2[0]\n";
+    let judged = shell_with("jestrunas judge --why -", text.as_bytes()).out;
+    let due = "stage 1, bit 0: the product 1 stands in y1[0], y2[0] and y3[0], an odd number, and G has it not; ";
+    assert!(judged.contains(due), "{judged}");
+}
+
+#[test]
+fn tables_that_were_guessed() {
+    let text = "m 1\ns 3\nS 10\nstage\ncyclic\ny1[0] = x2[0]\nstage\ncyclic\ny1[0] = x2[0]\n";
+    let judged = shell_with("jestrunas judge --why -", text.as_bytes()).out;
+    let due = "  at 0 the chain gives 0, S has 1; table by table 0 → 0 → 0; G of the stages 1 and 2 was left out and guessed\n";
+    assert!(judged.ends_with(due), "{judged}");
+}

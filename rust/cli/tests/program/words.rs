@@ -1,6 +1,6 @@
 //! The words behind `jestrunas`: commands, options, operands.
 
-use crate::shell::{misuses, prints, shell, tells};
+use crate::shell::{misuses, prints, shell, tells, Folder};
 
 #[test]
 fn wrong_use() {
@@ -77,6 +77,10 @@ fn bash_completes() {
     assert_eq!(offered("jestrunas judge --js"), ["--json"]);
     assert_eq!(offered("jestrunas judge designs/present_"), ["designs/present_f.bin", "designs/present_g.bin"]);
     assert_eq!(offered("jestrunas produce -o designs/present_").len(), 2);
+    // a name with a space is one
+    let folder = Folder::new();
+    let file = folder.write("a b", b"");
+    assert_eq!(offered(&format!("jestrunas judge {}", folder.of("a"))), [file]);
     // a number is not to be completed
     assert_eq!(offered("jestrunas produce -m ''"), [""]);
 }
