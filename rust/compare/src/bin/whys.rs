@@ -9,7 +9,7 @@
 
 use cli::sharing::{secret, shares};
 use cli::why::{Chain, Collision, Difference, Leak, Repeats, Why};
-use cli::{Design, Stage};
+use cli::{flip, Design, Stage};
 use compare::{hex, make, random::Random};
 use jestrunas::{judge, Refusal};
 use reference::encode;
@@ -22,14 +22,6 @@ fn hold(holds: bool, words: &str) -> Held {
         Ok(())
     } else {
         Err(words.to_owned())
-    }
-}
-
-/// Puts a term into a list, or takes it out where it stands there.
-fn flip(stage: &mut Stage, list: usize, term: u32) {
-    match stage.lists[list].binary_search(&term) {
-        Ok(i) => drop(stage.lists[list].remove(i)),
-        Err(i) => stage.lists[list].insert(i, term),
     }
 }
 
@@ -83,11 +75,11 @@ fn difference(random: &mut Random, design: &Design, refusal: &Refusal, why: &Dif
     }
     let mut mended = stage.clone();
     for product in &why.products {
-        flip(&mut mended, random.below(design.s) * design.m + product.bit, product.term);
+        flip(&mut mended.lists[random.below(design.s) * design.m + product.bit], product.term);
     }
     hold(judged(design, mended.clone()).0 != 12, "the products do not make the stage correct")?;
     let one = &why.products[random.below(why.products.len())];
-    flip(&mut mended, random.below(design.s) * design.m + one.bit, one.term);
+    flip(&mut mended.lists[random.below(design.s) * design.m + one.bit], one.term);
     hold(judged(design, mended).0 == 12, "a product more than are wrong")?;
     hold(refusal.trials == before(design, why.stage) + why.sharing as usize + 1, "not the sharing at which the verdict stopped")?;
     let output = run(design, stage, why.sharing);
@@ -115,7 +107,7 @@ fn leak(random: &mut Random, design: &Design, refusal: &Refusal, why: &Leak) -> 
             hold(term.term & variables != 0 && stage.lists[why.component * m + term.bit].contains(&term.term), "no term of it")?;
             for j in (0..s).filter(|&j| j != why.component) {
                 let mut given = stage.clone();
-                flip(&mut given, j * m + term.bit, term.term);
+                flip(&mut given.lists[j * m + term.bit], term.term);
                 let completes = (0..s).all(|share| given.depends(m, j, share));
                 let depends = (0..s).all(|share| stage.depends(m, j, share));
                 // a term that stands there already goes, and may free a component
@@ -129,8 +121,8 @@ fn leak(random: &mut Random, design: &Design, refusal: &Refusal, why: &Leak) -> 
         if named.terms.iter().all(|term| !term.to.is_empty()) {
             let mut mended = stage.clone();
             for term in &named.terms {
-                flip(&mut mended, why.component * m + term.bit, term.term);
-                flip(&mut mended, random.pick(&term.to) * m + term.bit, term.term);
+                flip(&mut mended.lists[why.component * m + term.bit], term.term);
+                flip(&mut mended.lists[random.pick(&term.to) * m + term.bit], term.term);
             }
             let (reason, component) = judged(design, mended);
             hold(reason != 12 && (reason != 13 || component > refusal.component), "the component still depends on every share")?;
