@@ -2,16 +2,17 @@
  * Jestrunas: judges threshold-implementation sharings of S-boxes.
  *
  * A design file states an S-box S of m bits, s shares for each value and a chain of k stages, each with a table G and
- * one list of products for every output bit of every component. The library reads such a file, forecasts what a verdict
- * on it takes, gives that verdict, runs it on given shares, produces one from a table, and joins two into one; and it
+ * one list of terms for every output bit of every component. The library reads such a file, forecasts what a verdict on
+ * it takes, gives that verdict, runs it on given shares, produces one from a table, and joins two into one; and it
  * transforms a table into its coefficient words and back. Shares, components and stages are numbered from 1, bits and
- * bytes from 0.
+ * bytes from 0. docs/RULES.md has every rule by its number: (RULES 6) is its section 6.
  *
  * What a caller owes, for every function here: a pointer and the length after it are a buffer of that many readable
  * bytes (an output or a workspace: writable too), and no buffer that is written to overlaps another of the same call.
  * A null pointer with length 0 is an empty buffer. Nothing else is asked: every content, length and number has an answer.
  *
  * The library keeps nothing from one call to the next, allocates nothing and may be called from several threads.
+ * Every struct is passed and answered by value.
  * Link with target/staticlib/libjestrunas.a (x86-64, System V calling convention).
  */
 #ifndef JESTRUNAS_H
@@ -24,7 +25,7 @@
 extern "C" {
 #endif
 
-/* The limits of a design. */
+/* The limits of a design (RULES 3). */
 #define JESTRUNAS_WIDTH_MAX 6       /* m is 1 to 6 */
 #define JESTRUNAS_SHARES_MIN 3      /* s is 3 to 5 */
 #define JESTRUNAS_SHARES_MAX 5
@@ -39,7 +40,7 @@ extern "C" {
 /* An output that is enough for every file that produce writes: none is longer, so with it produce never answers 17. */
 #define JESTRUNAS_PRODUCED_MAX 20867
 
-/* The reasons. Each is given by the operations named after it. */
+/* The reasons (RULES 14). Each is given by the operations named after it. */
 #define JESTRUNAS_ACCEPTED 0             /* judge: the design is accepted */
 #define JESTRUNAS_OK 0                   /* read, forecast, run, produce, join, transform: done, with no verdict on the design */
 /* Refusals of reading: read, judge, run, join; those of the head record, 1 to 4, forecast too. */
@@ -81,13 +82,14 @@ typedef struct {
 } jestrunas_verdict_t;
 
 /*
- * The answer of judging: the three numbers of the verdict, and the trials that it took. A trial puts one sharing through
- * one stage. A stage is tried for correctness, on the sharings as numbers from 0, share 1 in the lowest bits, up to the
- * first that is wrong; then for uniformity, in the same order, up to the first whose output sharing was met already. The
- * trial that ends a pass counts. Non-completeness is looked up in the lists and takes none. By reason, N being 2^(m * s):
+ * The answer of judging: the three numbers of the verdict, and the trials that it took (RULES 7). A trial puts one
+ * sharing through one stage. A stage is tried for correctness, on the sharings as numbers from 0, share 1 in the lowest
+ * bits, up to the first that is wrong; then for uniformity, in the same order, up to the first whose output sharing was
+ * met already. The trial that ends a pass counts. Non-completeness is looked up in the lists and takes none. By reason,
+ * N being 2^(m * s):
  *
  *   0               2 * k * N
- *   1 to 11         0
+ *   1 to 10         0
  *   12 at stage i   2 * (i - 1) * N + the trials of its correctness
  *   13 at stage i   (2 * (i - 1) + 1) * N
  *   14 at stage i   (2 * (i - 1) + 1) * N + the trials of its uniformity
@@ -128,38 +130,40 @@ typedef struct {
 } jestrunas_produced_t;
 
 /*
- * Reads a design file. Answers 0, 0, 0 when it reads, otherwise the first fault in file order (1 to 7).
+ * Reads a design file (RULES 5). Answers 0, 0, 0 when it reads, otherwise the first fault in file order (1 to 7).
  * The file is only read.
  */
 jestrunas_verdict_t jestrunas_read(const uint8_t *file, size_t file_len);
 
 /*
- * What a verdict on a design file takes, without judging. The head record, the first seven bytes, decides it, whatever
- * follows, also nothing: 0 where reading finds no fault there, otherwise reading's refusal of that record, the first of
- * 1 (its head is cut short), 2, 3, 1 (its body is cut short) and 4. The file is only read.
+ * What a verdict on a design file takes, without judging (RULES 7.5). The head record, the first seven bytes, decides
+ * it, whatever follows, also nothing: 0 where reading finds no fault there, otherwise reading's refusal of that record,
+ * the first of 1 (its head is cut short), 2, 3, 1 (its body is cut short) and 4. The file is only read.
  */
 jestrunas_forecast_t jestrunas_forecast(const uint8_t *file, size_t file_len);
 
 /*
- * The verdict on a design file: 0, k, 0 exactly when the file reads, S is a permutation, the workspace is enough, the
- * chain of tables is S, and every stage is correct, non-complete and uniform; otherwise the first fault (1 to 14). And
- * its trials, which are never more than the forecast's. Non-complete: each component ignores at least one share, the same
- * one for all its bits. Of an accepted design every component meets every setting of the shares on which it depends
- * equally often for all secrets; and every setting of s - 1 shares, one that it ignores left out, exactly once for each.
+ * The verdict on a design file (RULES 6): 0, k, 0 exactly when the file reads, S is a permutation, the workspace is
+ * enough, the chain of tables is S, and every stage is correct, non-complete and uniform; otherwise the first fault, 1
+ * to 10 or 12 to 14. And its trials, which are never more than the forecast's. Non-complete: each component ignores at
+ * least one share, the same one for all its bits.
+ * Of an accepted design, over all sharings of a secret, each sent through once: every component meets every setting of
+ * the shares on which it depends equally often for all secrets; and every setting of s - 1 shares, one that it ignores
+ * left out, exactly once for each. So this speaks of a card in which every sharing of a secret is equally likely.
  * With reasons 1 to 9 the workspace is untouched; otherwise its first 2^(m * s) / 8 bytes are zero afterwards and the
  * rest is untouched. It may hold anything before. The file is only read.
  */
 jestrunas_judged_t jestrunas_judge(const uint8_t *file, size_t file_len, uint8_t *workspace, size_t workspace_len);
 
 /*
- * Runs the chain of a design file on the given shares. Answers 0 and the output shares of the last stage, unused ones
- * zero; or a reading's reason (1 to 7) or 15, and five zeros. No verdict is taken. The file is only read.
+ * Runs the chain of a design file on the given shares (RULES 8). Answers 0 and the output shares of the last stage,
+ * unused ones zero; or a reading's reason (1 to 7) or 15, and five zeros. No verdict is taken. The file is only read.
  */
 jestrunas_run_t jestrunas_run(const uint8_t *file, size_t file_len, jestrunas_shares_t shares);
 
 /*
- * The published placements, for 3, 4 and 5 shares: a product goes to the lowest component c outside its set of shares for
- * which c + 1 (after s comes 1) is in the set. With them produce writes the direct sharing of the papers.
+ * The published placements, for 3, 4 and 5 shares (RULES 9.5): a product goes to the lowest component c outside its set
+ * of shares for which c + 1 (after s comes 1) is in the set.
  */
 static const uint8_t jestrunas_placement_3[6] = {3, 1, 3, 2, 2, 1};
 static const uint8_t jestrunas_placement_4[14] = {4, 1, 4, 2, 2, 1, 4, 3, 3, 1, 3, 2, 2, 1};
@@ -167,11 +171,12 @@ static const uint8_t jestrunas_placement_5[30] = {5, 1, 5, 2, 2, 1, 5, 3, 3, 1, 
                                                   4, 4, 1, 4, 2, 2, 1, 4, 3, 3, 1, 3, 2, 2, 1};
 
 /*
- * Writes the direct sharing of a table in s shares as a design file of one stage, each product in the component that the
- * placement says. In a product a share is chosen for each variable; the set of the chosen shares is the number J whose
- * bit j - 1 is set for each share j in it. The placement has 2^s - 2 bytes, for J from 1 on: the byte at index J - 1 is
- * the component, from 1 to s, of every product with the set J, and its share is not in J. The constant, for which no share
- * is chosen, goes to component 1. No product has all s shares, since the degree is below s.
+ * Writes the direct sharing of a table in s shares as a design file of one stage, each product in the component that
+ * the placement says (RULES 9 and 10). In a product a share is chosen for each variable; the set of the chosen shares
+ * is the number J whose bit j - 1 is set for each share j in it. The placement has 2^s - 2 bytes, for J from 1 on: the
+ * byte at index J - 1 is the component, from 1 to s, of every product with the set J, and its share is not in J. The
+ * constant, for which no share is chosen, goes to component 1. No product has all s shares, since the degree is below
+ * s.
  * Answers 0 and the file's length, the same by every placement, the bytes past it untouched; or 4, 3, 5, 8, 21, 16 or
  * 17, tested in this order, and length 0, the output untouched. What is produced, by any placement, reads, is correct and
  * non-complete, component c ignoring share c: with enough workspace its verdict is 0 or 14. The table and the placement
@@ -182,10 +187,10 @@ jestrunas_produced_t jestrunas_produce(size_t m, size_t s, const uint8_t *table,
                                        size_t output_len);
 
 /*
- * Joins two design files into one: its S is S of the second after S of the first, S(x) = S2(S1(x)); its stages are those
- * of the first, then those of the second; m and s are those of both. Answers 0 and the file's length, which is
- * first_len + second_len - (2^m + 15), the bytes past it untouched; or the reading's reason of the first (1 to 7), then
- * that of the second, 19, 20 or 17, tested in this order, and length 0, the output untouched. An output of
+ * Joins two design files into one (RULES 11): its S is S of the second after S of the first, S(x) = S2(S1(x)); its
+ * stages are those of the first, then those of the second; m and s are those of both. Answers 0 and the file's length,
+ * which is first_len + second_len - (2^m + 15), the bytes past it untouched; or the reading's reason of the first (1 to
+ * 7), then that of the second, 19, 20 or 17, tested in this order, and length 0, the output untouched. An output of
  * first_len + second_len bytes is always enough. Both need only read: no verdict is taken. What is joined reads; where
  * both are accepted it is accepted too, in the same workspace; and running it is running the second on what the first
  * gives. The files are only read, and may be one and the same buffer.
@@ -194,10 +199,10 @@ jestrunas_produced_t jestrunas_join(const uint8_t *first, size_t first_len, cons
                                     uint8_t *output, size_t output_len);
 
 /*
- * The transform between a table and the coefficient words of its algebraic normal form: the word at set u is the sum
- * (XOR) of the entries at all subsets of u. Of a table this gives the coefficient words, of coefficient words the table;
- * what is written is accepted, and transformed again it gives the input. Answers 0 and writes the first 2^m output bytes
- * only; or 4, 3, 5 or 17, tested in this order, the output untouched.
+ * The transform between a table and the coefficient words of its algebraic normal form (RULES 12): the word at set u is
+ * the sum (XOR) of the entries at all subsets of u. Of a table this gives the coefficient words, of coefficient words
+ * the table; what is written is accepted, and transformed again it gives the input. Answers 0 and writes the first 2^m
+ * output bytes only; or 4, 3, 5 or 17, tested in this order, the output untouched.
  */
 size_t jestrunas_transform(size_t m, const uint8_t *input, size_t input_len, uint8_t *output, size_t output_len);
 

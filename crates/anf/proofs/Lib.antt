@@ -1,12 +1,12 @@
 -- Laws of normal form.
 pub mod SubsetSums
-pub mod Numbering
-pub mod InPlace
+pub mod WordNumbers
+pub mod WordSums
 pub mod Order
 pub mod Terms
-pub mod Passing
+pub mod PassingLists
 pub mod Degree
-pub mod Answers
+pub mod TransformAnswer
 pub mod Tables
-pub mod Turning
+pub mod WordDegree
 pub mod Bench

@@ -11,9 +11,10 @@ use lib.Dec.{eqb}
 use lib.ListN.{length, get_or}
 use borrow.Author.Tests.{ne_eqb, ltb-true, ltb-false, lt-ltb, le-ltb}
 use Rattle.finite.specs.Sets.{subset}
-use Rattle.finite.proofs.Testing.{clash, or_none}
+use Rattle.finite.proofs.Testing.{clash}
+use Rattle.std.proofs.lemmas.Bool.{or_from}
 use Rattle.finite.proofs.Subsets.{subset_gt}
-use Rattle.anf.specs.Terms.{before, TermList}
+use Rattle.anf.specs.Terms.{before, IsTermList}
 
 -- ---- the order
 
@@ -76,10 +77,10 @@ next_rising n (t ∷ l) b c =
     let r : Rising n l = next_rising n l (λ j h. b (suc j) (omega arith)) (λ j h. c (suc j) (omega arith)) in
     (b 0 (omega arith), next_first n t l r (λ h. c 0 (omega arith)), r)
 
-pub rising_terms : (n : ℕ) (l : List ℕ) → Rising (2 ^ n) l → TermList n l
+pub rising_terms : (n : ℕ) (l : List ℕ) → Rising (2 ^ n) l → IsTermList n l
 rising_terms n l r = record { below = rising_below (2 ^ n) l r; rising = λ j h. rw add-one (rising_next (2 ^ n) l r j (omega arith)) }
 
-pub terms_rising : (n : ℕ) (l : List ℕ) → TermList n l → Rising (2 ^ n) l
+pub terms_rising : (n : ℕ) (l : List ℕ) → IsTermList n l → Rising (2 ^ n) l
 terms_rising n l t = next_rising (2 ^ n) l t.below (λ j h. rw add-one at (t.rising j (omega arith)))
 
 -- ---- the members of a list
@@ -95,4 +96,4 @@ member_append u (t ∷ a) b = ap (λ (x : Bool). eqb u t || x) (member_append u 
 -- what stands before each term of a list is none of them
 pub first_apart : (t : ℕ) (l : List ℕ) → First t l → member t l ≡ false
 first_apart t [] f = refl
-first_apart t (u ∷ l) f = or_none (ne_eqb t u (λ e. clash f.0 (ap (before t) (sym e) ∙ before_self t))) (first_apart t l f.1)
+first_apart t (u ∷ l) f = or_from _ _ (ne_eqb t u (λ e. clash f.0 (ap (before t) (sym e) ∙ before_self t))) (first_apart t l f.1)

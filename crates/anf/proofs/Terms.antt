@@ -12,11 +12,13 @@ use borrow.Author.Tests.{eqb-true, eqb-false, eq-eqb, ne_eqb}
 use Rattle.finite.specs.Tests.{pick, bit}
 use Rattle.finite.specs.Sums.{xor_below}
 use Rattle.finite.specs.Sets.{subset}
-use Rattle.finite.proofs.Testing.{clash, true_or_false}
-use Rattle.finite.proofs.Xor.{xor_left_comm, xor_left_cancel, xor_ring, and_assoc, and_xor, and_or, xor_and}
+use Rattle.finite.proofs.Testing.{clash}
+use Rattle.std.proofs.lemmas.Bool.{cases_Bool}
+use Rattle.std.proofs.lemmas.Nat.{and_assoc}
+use Rattle.finite.proofs.Xor.{xor_left_comm, xor_left_cancel, xor_ring, and_xor, and_or, xor_and}
 use Rattle.finite.proofs.Sums.{xor_below_ext, xor_below_xor, xor_below_none, xor_below_one, pick_lt, pick_zero}
 use Rattle.finite.proofs.Subsets.{eq_subset, subset_self, subset_gt, subset_trans, subset_iff}
-use Rattle.anf.specs.Terms.{value_at, before, TermList, named, names, clear, Depends}
+use Rattle.anf.specs.Terms.{value_at, before, IsTermList, named, names, clear, Depends}
 use Rattle.anf.proofs.Order.{before_subset, before_total, First, Rising, first_trans, terms_rising, member, first_apart}
 
 -- ---- values
@@ -46,7 +48,7 @@ unfolding value_at
 unique_rising n [] [] ra rb h = refl
 unique_rising n [] (t ∷ b) ra rb h = absurd (omega (arith, h t rb.0, value_at_first t b rb.1))
 unique_rising n (s ∷ a) [] ra rb h = absurd (omega (arith, h s ra.0, value_at_first s a ra.1))
-unique_rising n (s ∷ a) (t ∷ b) ra rb h = go (unique_rising n a b ra.2 rb.2) (true_or_false (before s t)) (true_or_false (before t s))
+unique_rising n (s ∷ a) (t ∷ b) ra rb h = go (unique_rising n a b ra.2 rb.2) (cases_Bool (before s t)) (cases_Bool (before t s))
   where
     go : (((x : ℕ) → x < n → value_at a x ≡ value_at b x) → a ≡ b) → (before s t ≡ true) ⊎ (before s t ≡ false) → (before t s ≡ true) ⊎ (before t s ≡ false)
         → s ∷ a ≡ t ∷ b
@@ -94,20 +96,20 @@ unique_members n a b ra rb h =
     ∙ sym (rising_value n b x rb))
 
 -- rising lists with equal values at all points are equal
-pub unique_terms : (n : ℕ) (a b : List ℕ) → TermList n a → TermList n b → ((x : ℕ) → x < 2 ^ n → value_at a x ≡ value_at b x) → a ≡ b
+pub unique_terms : (n : ℕ) (a b : List ℕ) → IsTermList n a → IsTermList n b → ((x : ℕ) → x < 2 ^ n → value_at a x ≡ value_at b x) → a ≡ b
 unique_terms n a b ta tb h = unique_rising (2 ^ n) a b (terms_rising n a ta) (terms_rising n b tb) h
 
 -- ---- dependence on the variables of a group
 
 pub clear_add : (x group : ℕ) → clear x group + bit_and x group ≡ x
 clear_add x group =
-    let e : bit_and x (bit_and x group) ≡ bit_and x group = sym (and_assoc x x group) ∙ ap (λ (y : ℕ). bit_and y group) (and_self x) in
+    let e : bit_and x (bit_and x group) ≡ bit_and x group = sym (and_assoc group x x) ∙ ap (λ (y : ℕ). bit_and y group) (and_self x) in
     omega (arith, xor_add_and x (bit_and x group), e)
 
 pub and_clear : (t x group : ℕ) → bit_and t group ≡ 0 → bit_and t (clear x group) ≡ bit_and t x
 and_clear t x group h =
     and_xor t x (bit_and x group)
-    ∙ ap (bit_xor (bit_and t x)) (ap (bit_and t) (and_comm x group) ∙ sym (and_assoc t group x) ∙ ap (λ (y : ℕ). bit_and y x) h)
+    ∙ ap (bit_xor (bit_and t x)) (ap (bit_and t) (and_comm x group) ∙ sym (and_assoc x t group) ∙ ap (λ (y : ℕ). bit_and y x) h)
     ∙ xor_zero_r (bit_and t x)
 
 pub subset_clear : (t x group : ℕ) → bit_and t group ≡ 0 → subset t (clear x group) ≡ subset t x
@@ -133,7 +135,7 @@ clear_xor x d group h = rw (xor_and, h) (simp xor_ring)
 clear_subset : (x group : ℕ) → subset (clear x group) x ≡ true
 clear_subset x group =
     eq_subset (clear x group) x
-    (xor_and x (bit_and x group) x ∙ ap₂ bit_xor (and_self x) (and_comm (bit_and x group) x ∙ sym (and_assoc x x group) ∙ ap (λ (y : ℕ). bit_and y group) (and_self x)))
+    (xor_and x (bit_and x group) x ∙ ap₂ bit_xor (and_self x) (and_comm (bit_and x group) x ∙ sym (and_assoc group x x) ∙ ap (λ (y : ℕ). bit_and y group) (and_self x)))
 
 pub names_flip : (group n : ℕ) (l : List ℕ) → Rising n l → names group l ≡ true
     → (x : ℕ) × (x < n) × (value_at l x ≡ bit_xor 1 (value_at l (clear x group)))
@@ -159,10 +161,10 @@ names_differ group n l r h =
     (w.0, w.1, λ e. let z : ◌≡◌ {A = ℕ} 1 0 = xor_left_cancel v 1 0 (xor_comm v 1 ∙ sym w.2 ∙ e ∙ sym (xor_zero_r v)) in omega arith)
 
 pub clear_clear : (x group : ℕ) → clear (clear x group) group ≡ clear x group
-clear_clear x group = clear_xor x (bit_and x group) group (and_assoc x group group ∙ ap (bit_and x) (and_self group))
+clear_clear x group = clear_xor x (bit_and x group) group (and_assoc group x group ∙ ap (bit_and x) (and_self group))
 
 -- a list that names a variable of the group depends on the group
-pub names_depends : (n group : ℕ) (l : List ℕ) → TermList n l → names group l ≡ true → Depends n group (value_at l)
+pub names_depends : (n group : ℕ) (l : List ℕ) → IsTermList n l → names group l ≡ true → Depends n group (value_at l)
 names_depends n group l t h =
     let w = names_differ group (2 ^ n) l (terms_rising n l t) h in
     record {
@@ -183,7 +185,7 @@ depends_names n group l d = go (names group l) refl
     go false e = absurd (d.changes (independent group l e d.x d.y d.alone))
 
 -- dependence: the function of a rising list depends on a group of variables exactly when some term names one of them
-pub names_exactly : (n group : ℕ) (l : List ℕ) → TermList n l
+pub names_exactly : (n group : ℕ) (l : List ℕ) → IsTermList n l
     → (names group l ≡ true → Depends n group (value_at l)) × (Depends n group (value_at l) → names group l ≡ true)
 names_exactly n group l t = (names_depends n group l t, depends_names n group l)
 

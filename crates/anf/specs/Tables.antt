@@ -1,5 +1,5 @@
 -- Tables as lists of entries (the paper's "What the library covers").
-use Rattle.std.specs.Prelude.{ℕ, ◌^◌, Bool, List, ltb, length, get_or}
+use Rattle.std.specs.Prelude.{ℕ, ◌^◌, ◌<◌, ◌≡◌, Bool, List, ltb, length, get_or}
 use Rattle.finite.specs.Tests.{all}
 use Rattle.finite.specs.Maps.{Injective}
 
@@ -10,6 +10,11 @@ entry t x = get_or t x 0
 -- every entry is below the bound
 unfoldable pub entries_below : List ℕ → ℕ → Bool
 entries_below t bound = all (length t) (λ x. ltb (entry t x) bound)
+
+-- 2^m entries of m bits
+pub record TableFits (m : ℕ) (t : List ℕ) : Type 0 where
+  pub size : length t ≡ 2 ^ m
+  pub below : (x : ℕ) → x < 2 ^ m → entry t x < 2 ^ m
 
 -- a table of 2^m entries repeats none
 abbrev pub Permutation : ℕ → List ℕ → Type 0

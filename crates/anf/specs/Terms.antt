@@ -14,7 +14,7 @@ unfoldable pub before : ℕ → ℕ → Bool
 before a b = ltb a b
 
 -- a strictly rising list of terms in n variables
-pub record TermList (n : ℕ) (ts : List ℕ) : Type 0 where
+pub record IsTermList (n : ℕ) (ts : List ℕ) : Type 0 where
   pub below : (j : ℕ) → j < length ts → get_or ts j 0 < 2 ^ n
   pub rising : (j : ℕ) → j + 1 < length ts → before (get_or ts j 0) (get_or ts (j + 1) 0) ≡ true
 

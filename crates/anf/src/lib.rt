@@ -7,6 +7,7 @@ ghost use Rattle.std.specs.Prelude.{◌≡◌, ◌++◌, ◌^◌, ◌≤◌, len
 ghost use Rattle.reasons.specs.Numbers.{reason_of};
 ghost use Rattle.finite.specs.Maps.{repeats};
 ghost use Rattle.anf.specs.Tables.{entries_below, entry};
+ghost use Rattle.anf.specs.Terms.{before};
 ghost use Rattle.anf.specs.Inside.Words.{words_degree};
 ghost use Rattle.anf.specs.Transform.{greatest_width, transform_reason, transform_after, transformed};
 
@@ -17,6 +18,14 @@ use words::sum_subsets;
 
 /// The greatest width of a table.
 pub const GREATEST_WIDTH: usize = 6;
+
+/// Whether the term `a` stands before the term `b` in a list: the one function for the order of terms.
+#[tactic(auto, unfolding(crate::specs::Terms::before))]
+pub fn stands_before(a: u32, b: u32) -> bool
+    ensures { result ≡ before a b }
+{
+    a < b
+}
 
 /// Whether every entry is below the bound.
 pub fn entries_below(table: &[u8], bound: usize) -> bool
@@ -51,7 +60,9 @@ pub fn words_degree(words: &[u8]) -> usize
 
 // Writes the sums over subsets of the input over the front of the output. By m, as `sum_subsets` goes by it.
 fn write_sums(m: usize, input: &[u8], output: &mut [u8])
-    requires { (m ≤ greatest_width) × (length input.now ≡ 2 ^ m) × (2 ^ m ≤ length output.old) }
+    requires width { m ≤ greatest_width }
+    requires entries { length input.now ≡ 2 ^ m }
+    requires room { 2 ^ m ≤ length output.old }
     ensures { output.new ≡ transformed m input.now ++ drop (2 ^ m) output.old }
 {
     let front = &mut output[..input.len()];

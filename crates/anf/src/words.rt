@@ -63,7 +63,8 @@ fn add_lower<W: Word>(half: usize, block: &mut [W])
 
 // The same in every block of 2^(k + 1) words: each set that has variable k gets the word of the set without it added.
 fn add_variable<W: Word>(k: usize, words: &mut [W])
-    requires { (k < greatest_width) × (length words.old % 2 ^ (k + 1) ≡ 0) }
+    requires variable { k < greatest_width }
+    requires blocks { length words.old % 2 ^ (k + 1) ≡ 0 }
     ensures { W.numbers words.new ≡ tabulate (length words.old) (over_variable k (entry (W.numbers words.old))) }
 {
     let half = power(k);
@@ -77,7 +78,8 @@ fn add_variable<W: Word>(k: usize, words: &mut [W])
 
 /// The sums over subsets in place of the 2^m words, one variable after the other, so by m and not by the length.
 pub fn sum_subsets<W: Word>(m: usize, words: &mut [W])
-    requires { (m ≤ greatest_width) × (length words.old ≡ 2 ^ m) }
+    requires width { m ≤ greatest_width }
+    requires entries { length words.old ≡ 2 ^ m }
     ensures { W.numbers words.new ≡ transformed m (W.numbers words.old) }
 {
     for k in 0..m {

@@ -5,7 +5,7 @@
 
 mod tally; // tally.rt: how the lines ended, counted
 
-use checker::Verdict;
+use jestrunas::Verdict;
 use std::io;
 use std::io::Read;
 use tally::{Outcome, Tally};

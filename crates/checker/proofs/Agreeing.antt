@@ -9,11 +9,11 @@ use lib.Dec.{eqb}
 use lib.ListN.{length, get_or}
 use Rattle.finite.specs.Tests.{any}
 use Rattle.finite.proofs.Testing.{any_none_more}
-use Rattle.design.specs.Design.{Stage}
-use Rattle.threshold.specs.Sharing.{sum}
-use Rattle.threshold.specs.Stages.{output}
+use Rattle.records.specs.Design.{Stage}
+use Rattle.sharing.specs.Sharing.{sum}
+use Rattle.sharing.specs.Stages.{output}
 use Rattle.checker.specs.Trials.{sums_wrong}
-use Rattle.checker.specs.Inside.Parts.{first_wrong}
+use Rattle.checker.specs.Inside.Parts.{found}
 use Rattle.checker.proofs.Passes.{found_at, found_none}
 
 -- ---- `first_wrong`: none of i sharings is wrong, of n; y is the output of the next, r whether it is right
@@ -31,11 +31,11 @@ module _ (m s : ℕ) (g : Stage) where
           ap (λ (z : ℕ). eqb (sum m s z) (get_or g.table (sum m s i) 0)) (ap (λ (l : List (List ℕ)). output l i) (sym el) ∙ sym ey)
           ∙ ap₂ (λ (t : List ℕ) (z : ℕ). eqb (sum m s y) (get_or t (sum m s z) 0)) (sym eb) (sym ex) ∙ sym e)
 
-      pub sums_wrong_lem : not r ≡ true → i < 2 ^ length ls → length ls ≡ m * s → Some x ≡ first_wrong m s g
+      pub sums_wrong_lem : not r ≡ true → i < 2 ^ length ls → length ls ≡ m * s → Some x ≡ found (2 ^ (m * s)) (sums_wrong m s g)
       sums_wrong_lem q h k = ap Some ex ∙ found_at (2 ^ (m * s)) _ i (rw k at h) so (next ∙ q)
 
       pub sums_more : not r ≡ false → any (i + 1) (sums_wrong m s g) ≡ false
       sums_more q = any_none_more i _ so (next ∙ q)
 
-    pub sums_end : (ls : List (List ℕ)) → ls ≡ g.lists → i ≡ 2 ^ length ls → length ls ≡ m * s → None ≡ first_wrong m s g
+    pub sums_end : (ls : List (List ℕ)) → ls ≡ g.lists → i ≡ 2 ^ length ls → length ls ≡ m * s → None ≡ found (2 ^ (m * s)) (sums_wrong m s g)
     sums_end ls el z k = found_none (2 ^ (m * s)) _ (rw (z, k) at so)

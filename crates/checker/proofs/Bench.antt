@@ -8,21 +8,21 @@ use Rattle.finite.specs.Sets.{subset}
 use Rattle.finite.specs.Maps.{repeats, met_before}
 use Rattle.finite.specs.Faults.{first_fault}
 use Rattle.anf.specs.Terms.{value_at}
-use Rattle.records.specs.Records.{join, a_record}
-use Rattle.design.specs.Encode.{stage_bytes, encode}
+use Rattle.records.specs.Records.{a_record}
+use Rattle.records.specs.Encode.{stage_bytes, encode}
 use Rattle.records.specs.Bytes.{term_bytes}
 use Rattle.design.proofs.Bench.{computing}
-use Rattle.threshold.specs.Sharing.{share, sum, setting, put_share}
-use Rattle.threshold.specs.Stages.{output, correct, depends_on, depends_on_all, non_complete, sharings_to, uniform}
-use Rattle.threshold.specs.Chain.{chained, handed, reads_alike, read_meetings}
-use Rattle.threshold.specs.Running.{packed, unpacked, share_fits, shares_fit, running_on, running}
+use Rattle.sharing.specs.Sharing.{share, sum, setting, put_share, packed}
+use Rattle.sharing.specs.Stages.{output, correct, depends_on, depends_on_all, non_complete, sharings_to, uniform}
+use Rattle.sharing.specs.Chain.{chained, handed, reads_alike, read_meetings}
+use Rattle.threshold.specs.Running.{unpacked, share_fits, shares_fit, running_on, running}
 use Rattle.checker.specs.Verdict.{chain_is_box, stages_faults, judged, judged_reading, verdict}
 use Rattle.checker.specs.Trials.{both_passes, trials_of, trials, judging, forecast}
 use Rattle.checker.specs.Bench.{rows, forecasts, meeting_rows, runs}
 
 -- the definitions that computing opens: of a file that is written,
 unfoldable writing : ℕ
-unfolding join a_record stage_bytes encode term_bytes
+unfolding a_record stage_bytes encode term_bytes
 writing = 0
 
 -- of a sharing and a stage,

@@ -1,6 +1,6 @@
 -- Whether a component depends on every share: the laws of `variables_of` and `offending`, over plain values.
 -- Assumes nothing.
-use mathlib.Core.Path.{◌≡◌, refl, sym, ap, ap₂, ◌∙◌, subst}
+use mathlib.Core.Path.{◌≡◌, refl, sym, ap, ap₂, ◌∙◌}
 use mathlib.Core.List.{List, [], ◌∷◌}
 use mathlib.Core.Bool.{Bool, true, false, ◌||◌, or_assoc}
 use lib.ListN.{get_or}
@@ -11,22 +11,19 @@ use native.Mathlib.Nat.{mul-le-mul}
 use lib.Bits.{bit_or}
 use Rattle.finite.specs.Tests.{any}
 use Rattle.finite.proofs.Testing.{or_false_right, all_at, all_intro, all_fails, all_congr, any_at, any_some, any_step, any_none_more}
-use Rattle.anf.specs.Terms.{TermList, named, names}
+use Rattle.anf.specs.Terms.{named, names}
 use Rattle.anf.proofs.Terms.{named_or}
 use Rattle.design.specs.Limits.{broken, greatest_width}
-use Rattle.design.specs.Design.{Stage, stage_of, list_of}
-use Rattle.design.specs.Reading.{meaning}
-use Rattle.design.specs.Inside.Described.{Describes}
-use Rattle.design.specs.Heads.{laid_by}
+use Rattle.records.specs.Design.{Stage}
+use Rattle.design.specs.WellFormed.{StageFits}
 use Rattle.design.proofs.Limits.{bounds}
-use Rattle.design.proofs.Answered.{described}
-use Rattle.threshold.specs.Inside.Variables.{variables, names_every}
-use Rattle.threshold.specs.Stages.{depends_on, depends_on_all}
+use Rattle.sharing.specs.Inside.Variables.{variables, names_every}
+use Rattle.sharing.specs.Stages.{depends_on, depends_on_all}
 use Rattle.std.specs.Prelude.{Option, Some, None}
 use Rattle.checker.specs.Inside.Parts.{found, lists_name}
 use Rattle.checker.proofs.Passes.{found_at, found_none}
-use Rattle.threshold.proofs.Sharing.{place_lt}
-use Rattle.threshold.proofs.Dependence.{depends_listed}
+use Rattle.sharing.proofs.Sharing.{place_lt}
+use Rattle.sharing.proofs.Dependence.{depends_listed}
 
 -- ---- `variables_of`: p is the number of points of m variables
 
@@ -116,42 +113,31 @@ module _ (m s : ℕ) (ls : List (List ℕ)) (j : ℕ) where
         lacks = so.lacks;
       }
 
-module _ (f starts : List ℕ) (m s k : ℕ) (d : Describes f (laid_by m s k starts)) (t : ℕ) (h : t < k) (j : ℕ) (u : j < s) where
-  abbrev stage : Stage
-  stage = stage_of (meaning f) t
+module _ (m s : ℕ) (g : Stage) (fits : StageFits m s g) (j : ℕ) (u : j < s) where
+  depends_lists : (e : ℕ) → depends_on m s g j e ≡ lists_name m m g.lists j (variables m e)
+  depends_lists e = depends_listed m s g j e u (λ i c. (fits.list i c).terms)
 
-  inside : t < (meaning f).k
-  inside = let e = (described d).k in omega arith
-
-  bits : m * s ≡ (meaning f).m * (meaning f).s
-  bits = ap₂ ◌*◌ (described d).m (described d).s
-
-  depends_lists : (e : ℕ) → depends_on m s stage j e ≡ lists_name m m stage.lists j (variables m e)
-  depends_lists e =
-      depends_listed m s stage j e u
-      (λ i c. subst (λ (x : ℕ). TermList x (list_of (meaning f) t i)) (sym bits) (((described d).formed.stage t inside).list i (let q = bits in omega arith)).terms)
-
-  module _ (none : NoComponent m s stage j) where
+  module _ (none : NoComponent m s g j) where
     -- a term with which the set has a variable of every share
-    pub offending_found : (b set : ℕ) (ts : List ℕ) → b < m → OfTerms m s stage.lists j b set ts → (y : ℕ) (rest : List ℕ) → ts ≡ y ∷ rest
-        → (r : Bool) → r ≡ names_every m s (bit_or set y) → r ≡ true → Some j ≡ found s (depends_on_all m s stage)
+    pub offending_found : (b set : ℕ) (ts : List ℕ) → b < m → OfTerms m s g.lists j b set ts → (y : ℕ) (rest : List ℕ) → ts ≡ y ∷ rest
+        → (r : Bool) → r ≡ names_every m s (bit_or set y) → r ≡ true → Some j ≡ found s (depends_on_all m s g)
     unfolding NoComponent depends_on_all names_every
     offending_found b set ts c so y rest e r er q =
-        found_at s (depends_on_all m s stage) j u none
+        found_at s (depends_on_all m s g) j u none
         (all_intro s _ (λ a la. depends_lists a ∙ named_all (variables m a) (all_at s _ (sym er ∙ q) a la)))
       where
-        named_all : (group : ℕ) → named group (bit_or set y) ≡ true → lists_name m m stage.lists j group ≡ true
-        named_all group g =
-            let p = any_some (b + 1) _ (sym (gathers_more m s stage.lists j b set ts so y rest e r er group) ∙ ap (λ (x : Bool). x || names group rest) g) in
+        named_all : (group : ℕ) → named group (bit_or set y) ≡ true → lists_name m m g.lists j group ≡ true
+        named_all group is =
+            let p = any_some (b + 1) _ (sym (gathers_more m s g.lists j b set ts so y rest e r er group) ∙ ap (λ (x : Bool). x || names group rest) is) in
             any_at m _ p.0 (omega (arith, p.1)) p.2
 
     -- a component, all its lists passed
-    pub no_component_more : (b set : ℕ) → OfLists m s stage.lists j b set → b ≤ m → m ≤ b → NoComponent m s stage (j + 1)
+    pub no_component_more : (b set : ℕ) → OfLists m s g.lists j b set → b ≤ m → m ≤ b → NoComponent m s g (j + 1)
     unfolding NoComponent depends_on_all names_every
     no_component_more b set so up low =
         let z : b ≡ m = omega arith in
-        any_none_more j (depends_on_all m s stage) none
-        (all_congr s _ _ (λ e le. depends_lists e ∙ sym (so.gathers (variables m e) ∙ ap (λ (x : ℕ). lists_name x m stage.lists j (variables m e)) z)) ∙ so.lacks)
+        any_none_more j (depends_on_all m s g) none
+        (all_congr s _ _ (λ e le. depends_lists e ∙ sym (so.gathers (variables m e) ∙ ap (λ (x : ℕ). lists_name x m g.lists j (variables m e)) z)) ∙ so.lacks)
 
 -- all components passed
 pub offending_none : (m s : ℕ) (g : Stage) (j : ℕ) → NoComponent m s g j → j ≤ s → s ≤ j → (r : Option ℕ) → r ≡ None → r ≡ found s (depends_on_all m s g)

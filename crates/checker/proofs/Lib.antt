@@ -1,6 +1,5 @@
 -- Laws of the verdict, its trials and their forecast.
 pub mod Workspace
-pub mod StageFacts
 pub mod Passes
 pub mod Ranges
 pub mod Marking

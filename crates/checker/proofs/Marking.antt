@@ -17,22 +17,19 @@ use lib.Pow.{shl_exact}
 use borrow.Author.Tests.{eq-eqb, ne_eqb}
 use Rattle.finite.specs.Tests.{any}
 use Rattle.finite.specs.Maps.{met_before}
-use Rattle.finite.proofs.Testing.{or_right, any_step, any_none_more, or_false_right}
+use Rattle.std.proofs.lemmas.Bool.{or_right}
+use Rattle.finite.proofs.Testing.{any_step, any_none_more, or_false_right}
 use Rattle.finite.specs.Sets.{has}
 use Rattle.finite.proofs.Elements.{has_none, has_with, has_with_other}
 use Rattle.finite.proofs.Powers.{eights}
-use Rattle.design.specs.Inside.Described.{Describes}
-use Rattle.design.specs.Heads.{laid_by}
-use Rattle.design.specs.Reading.{meaning}
-use Rattle.design.proofs.Answered.{described}
-use Rattle.design.specs.Design.{stage_of}
-use Rattle.threshold.specs.Stages.{output}
-use Rattle.threshold.proofs.Output.{output_lt}
+use Rattle.design.specs.Limits.{broken}
+use Rattle.design.proofs.Limits.{bounds}
+use Rattle.sharing.specs.Stages.{output}
+use Rattle.sharing.proofs.Output.{output_lt}
 use Rattle.checker.specs.Verdict.{workspace_for, zeroed}
 use Rattle.checker.specs.Inside.Marks.{marked, mark, Clear}
-use Rattle.checker.specs.Inside.Parts.{found, first_met}
+use Rattle.checker.specs.Inside.Parts.{found}
 use Rattle.checker.proofs.Passes.{found_at, found_none}
-use Rattle.checker.proofs.StageFacts.{lists_many}
 
 -- marking y marks y and nothing else
 mark_same : (l : List ℕ) (y : ℕ) → y / 8 < length l → marked (mark l y) y ≡ true
@@ -133,17 +130,11 @@ module _ (ls : List (List ℕ)) (l₀ l : List ℕ) (i : ℕ) (r : MarkedTo (2 ^
     pub marked_none : None ≡ found (2 ^ length ls) (met_before (output ls))
     marked_none = found_none (2 ^ length ls) (met_before (output ls)) (rw z at r.once)
 
-  pub marked_last : drop (2 ^ length ls / 8) l ≡ drop (2 ^ length ls / 8) l₀
-  marked_last = r.rest
+-- ---- `first_met`: zeroed bytes mark nothing, and ls are the lists of a stage
 
--- ---- `first_met`: zeroed bytes mark nothing, and the lists are those of stage t
-
-module _ (f starts : List ℕ) (m s k : ℕ) (d : Describes f (laid_by m s k starts)) (t : ℕ) (h : t < k) (ls : List (List ℕ)) (e : ls ≡ (stage_of (meaning f) t).lists) where
-  many : length ls ≡ m * s
-  many = lists_many f starts m s k d t h ls e
-
+module _ (m s k : ℕ) (limits : broken m s k ≡ false) (ls : List (List ℕ)) (many : length ls ≡ m * s) where
   pub enough : 3 ≤ length ls
-  enough = omega (arith, many, (described d).bounds.bits_low)
+  enough = omega (arith, many, (bounds m s k limits).bits_low)
 
   same_bytes : 2 ^ length ls / 8 ≡ workspace_for m s
   same_bytes = ap (λ (x : ℕ). 2 ^ x / 8) many
@@ -155,8 +146,9 @@ module _ (f starts : List ℕ) (m s k : ℕ) (d : Describes f (laid_by m s k sta
   none_marked ws z =
       clear_none (2 ^ length ls) ws (drop (2 ^ length ls / 8) ws) (eights _ enough) (sym z ∙ ap (λ (n : ℕ). zeroed n ws) (sym same_bytes))
 
-  pub stage_meets : (v : Option ℕ) → v ≡ found (2 ^ length ls) (met_before (output ls)) → v ≡ first_met m s (stage_of (meaning f) t)
-  stage_meets v q = q ∙ ap₂ (λ (n : ℕ) (u : List (List ℕ)). found (2 ^ n) (met_before (output u))) many e
-
   pub rest_kept : (ws ws₁ : List ℕ) → drop (2 ^ length ls / 8) ws₁ ≡ drop (2 ^ length ls / 8) ws → drop (workspace_for m s) ws₁ ≡ drop (workspace_for m s) ws
   rest_kept ws ws₁ q = rw same_bytes at q
+
+pub stage_meets : (m s : ℕ) (ls us : List (List ℕ)) → ls ≡ us → length ls ≡ m * s → (v : Option ℕ) → v ≡ found (2 ^ length ls) (met_before (output ls))
+    → v ≡ found (2 ^ (m * s)) (met_before (output us))
+stage_meets m s ls us e many v q = q ∙ ap₂ (λ (n : ℕ) (u : List (List ℕ)). found (2 ^ n) (met_before (output u))) many e

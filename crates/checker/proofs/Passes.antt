@@ -1,7 +1,7 @@
 -- Passes over the sharings of a stage, and the trials that they add up to.
 -- Assumes nothing.
 use mathlib.Core.Path.{◌≡◌, refl, sym, ap, ◌∙◌}
-use Rattle.std.specs.Prelude.{Some, None, is_some}
+use Rattle.std.specs.Prelude.{Option, Some, None, is_some}
 use mathlib.Core.Bool.{Bool, true, false, not, ◌||◌}
 use Prim.Native.Nat.{ℕ, zero, suc, ◌+◌, ◌*◌, ◌-◌, ◌^◌, ◌<◌, ◌≤◌}
 use native.Mathlib.Nat.{mul-add, add-mul, mul-le-mul}
@@ -12,14 +12,15 @@ use lib.Pow.{pow_mono}
 use borrow.Author.Tests.{le-leb}
 use Rattle.finite.specs.Tests.{pick, any, first, tried, total}
 use Rattle.finite.specs.Maps.{repeats}
-use Rattle.finite.proofs.Testing.{and_intro, pick_true, pick_false, any_at, any_not, first_found, first_is, tried_all, tried_most}
+use Rattle.std.proofs.lemmas.Bool.{and_from}
+use Rattle.finite.proofs.Testing.{pick_true, pick_false, any_at, any_not, first_found, first_is, tried_all, tried_most}
 use Rattle.finite.proofs.Faults.{fault_either, fault_none}
 use Rattle.design.specs.Limits.{greatest_share_bits, greatest_stages}
-use Rattle.design.specs.Design.{Stage, Design, stage_of}
-use Rattle.threshold.specs.Stages.{output, correct}
+use Rattle.records.specs.Design.{Stage, Design, stage_of}
+use Rattle.sharing.specs.Stages.{output, correct}
 use Rattle.checker.specs.Trials.{sums_wrong, output_met, correctness_tries, uniformity_tries, correctness_at, uniformity_at, both_passes, trials_of}
-use Rattle.checker.specs.Inside.Parts.{found, FoundBelow, tries_until, first_wrong, first_met, stage_judged, stage_tries}
-use Rattle.checker.specs.declared.Verdict.{Verdict}
+use Rattle.checker.specs.Inside.Parts.{found, FoundBelow, tries_until, stage_judged, stage_tries}
+use Rattle.checker.specs.Verdict.{Verdict}
 
 -- ---- the first that is found
 
@@ -56,13 +57,16 @@ module _ (n : ℕ) (p : ℕ → Bool) where
       go true e = absurd (cc)
       go false e = refl
 
-  pub found_below : FoundBelow n (found n p)
+  found_below : FoundBelow n (found n p)
   unfolding found FoundBelow
   found_below = go (any n p) refl
     where
       go : (b : Bool) → any n p ≡ b → FoundBelow n (pick b (Some (first n p)) None)
       go true e = (first_is n p e).0
       go false e = tt
+
+  pub below : (r : Option ℕ) → r ≡ found n p → FoundBelow n r
+  below r e = rw e found_below
 
   pub tries_found : tries_until n (found n p) ≡ tried n p
   unfolding found tries_until tried
@@ -75,11 +79,11 @@ module _ (n : ℕ) (p : ℕ → Bool) where
 -- ---- what it says of a stage
 
 module _ (w s : ℕ) (g : Stage) where
-  pub correctness_stopped : is_some (first_wrong w s g) ≡ not (correct w s g)
+  pub correctness_stopped : is_some (found (2 ^ (w * s)) (sums_wrong w s g)) ≡ not (correct w s g)
   unfolding correct
   correctness_stopped = some_found (2 ^ (w * s)) _ ∙ any_not (2 ^ (w * s)) _
 
-  pub uniformity_stopped : is_some (first_met w s g) ≡ repeats (2 ^ (w * s)) (output g.lists)
+  pub uniformity_stopped : is_some (found (2 ^ (w * s)) (output_met g)) ≡ repeats (2 ^ (w * s)) (output g.lists)
   unfolding repeats
   uniformity_stopped = some_found (2 ^ (w * s)) _
 
@@ -95,6 +99,10 @@ module _ (w s : ℕ) (g : Stage) where
 
 pub twice_more : (n c : ℕ) → 2 * suc n * c ≡ 2 * n * c + c + c
 twice_more n c = omega (arith, mul-add 2 1 n, add-mul 2 (2 * n) c)
+
+-- so many sharings are counted in 32 bits
+pub few_sharings : (bits : ℕ) → bits ≤ greatest_share_bits → 2 ^ bits < 4294967296
+few_sharings bits h = let q : 2 ^ bits ≤ 2 ^ greatest_share_bits = pow_mono h in omega arith
 
 -- within the limits there are few
 pub few_trials : (bits t : ℕ) → bits ≤ greatest_share_bits → t ≤ greatest_stages → 2 * t * 2 ^ bits ≤ 2 * greatest_stages * 2 ^ greatest_share_bits
@@ -128,7 +136,7 @@ module _ (d : Design) where
 module _ (d : Design) where
   pub untried : (v : Verdict) → 1 ≤ v.reason → v.reason ≤ 11 → trials_of d v ≡ 0
   unfolding trials_of
-  untried v l h = pick_true _ _ _ (and_intro (le-leb 1 v.reason l) (le-leb v.reason 11 h))
+  untried v l h = pick_true _ _ _ (and_from _ _ (le-leb 1 v.reason l) (le-leb v.reason 11 h))
 
 -- ---- the trials of one stage
 

@@ -1,7 +1,7 @@
 -- What iterators give of the sharings with their outputs. Assumes nothing.
-use mathlib.Core.Path.{◌≡◌, ap, ap₂, ◌∙◌}
+use mathlib.Core.Path.{◌≡◌, sym, ap, ap₂, ◌∙◌}
 use mathlib.Core.List.{List, [], ◌∷◌, ◌++◌}
-use Prim.Native.Nat.{ℕ, ◌+◌, ◌^◌, ◌<◌, min}
+use Prim.Native.Nat.{ℕ, ◌+◌, ◌*◌, ◌^◌, ◌<◌, min}
 use native.Mathlib.Omega.{arith}
 use Rattle.std.specs.Prelude.{Option, Some, None}
 use lib.ListN.{length, length-append}
@@ -17,7 +17,7 @@ use Rattle.std.proofs.lemmas.List.FromFn.{length-range_with_len, get_or-range_wi
 use Rattle.std.proofs.lemmas.Slice.Zip.{length-zip, get_or-zip}
 use Rattle.finite.specs.Tests.{tabulate}
 use Rattle.finite.proofs.Testing.{tabulate_length, tabulate_at}
-use Rattle.threshold.specs.Stages.{output}
+use Rattle.sharing.specs.Stages.{output}
 use Rattle.threshold.specs.Inside.Outputs.{left}
 use Rattle.threshold.specs.declared.blocks.Outputs.{Outputs}
 
@@ -30,6 +30,10 @@ pub outputs_zipped : (n : ℕ) (ls : List (List ℕ)) (s : Zip (Range ℕ) Outpu
     → n ≡ 2 ^ length ls → YieldsList (zips nat_range_steps (YieldsFirst left)) (λ p. (p.0, p.1)) s (with_outputs ls)
 outputs_zipped n ls s a b e =
     YieldsList-from_zip (YieldsList-from_range 0 n (2 ^ length ls) a (omega arith)) (YieldsList-from_first (λ y. y) left _ b)
+
+-- ls are the lists of a stage, n the number of sharings
+pub all_sharings : (m s bits n : ℕ) (ls : List (List ℕ)) → length ls ≡ m * s → bits ≡ m * s → n ≡ 2 ^ bits → n ≡ 2 ^ length ls
+all_sharings m s bits n ls many eb en = en ∙ ap (λ (x : ℕ). 2 ^ x) (eb ∙ sym many)
 
 -- one more
 pub length-last : {A : Type 0} (xs : List A) (x : A) → length (xs ++ (x ∷ [])) ≡ length xs + 1

@@ -10,10 +10,9 @@ use lib.ListN.{length, drop}
 use lib.Seq.{drop-cons, drop-length}
 use Rattle.finite.specs.Faults.{first_fault}
 use Rattle.finite.proofs.Faults.{fault_past, fault_none, fault_append, fault_passed, some_or_none}
-use Rattle.design.specs.Design.{Design, no_stage, stage_of}
-use Rattle.checker.specs.Verdict.{answer, stage_faults, stages_faults}
+use Rattle.records.specs.Design.{Design, no_stage, stage_of}
+use Rattle.checker.specs.Verdict.{Verdict, answer, stage_faults, stages_faults}
 use Rattle.checker.specs.Inside.Parts.{stage_judged, stages_judged}
-use Rattle.checker.specs.declared.Verdict.{Verdict}
 
 -- what stage t answers, where those after it answer `onward`
 abbrev pub stage_then : Design → ℕ → Verdict → Verdict

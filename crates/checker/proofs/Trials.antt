@@ -1,6 +1,6 @@
 -- The trials of a verdict and their forecast, as a customer relies on them.
 -- Assumes nothing.
-use mathlib.Core.Path.{◌≡◌, refl, sym, ap, ap₂, ◌∙◌, subst}
+use mathlib.Core.Path.{◌≡◌, refl, sym, ap, ap₂, ◌∙◌}
 use mathlib.Core.Logic.{◌↔◌, ◌≢◌}
 use mathlib.Core.List.{List}
 use Prim.Native.Nat.{ℕ, zero, suc, ◌+◌, ◌*◌, ◌-◌, ◌^◌, ◌<◌, ◌≤◌}
@@ -12,7 +12,8 @@ use lib.Dec.{eqb}
 use borrow.Author.Tests.{eq-eqb, ne_eqb, not-true}
 use Rattle.finite.specs.Tests.{pick}
 use Rattle.finite.proofs.Testing.{pick_true, pick_false, pick_number}
-use Rattle.design.specs.Design.{Design, stage_of}
+use Rattle.records.specs.Design.{Design, stage_of}
+use Rattle.design.specs.WellFormed.{WellFormed}
 use Rattle.design.specs.Reading.{Reading, refused, means, head_of, head_fault, meaning, reading}
 use Rattle.design.specs.Limits.{Head}
 use Rattle.design.proofs.HeadAlone.{head_seven, fault_seven, head_range, refused_first, reads_head}
@@ -20,17 +21,15 @@ use Rattle.design.proofs.Walking.{head_refused}
 use Rattle.design.proofs.Written.{read_means}
 use Rattle.design.proofs.Theorems.{read_formed}
 use Rattle.design.proofs.Reasons.{reason_range}
-use Rattle.threshold.proofs.Tests.{correct↔, uniform↔}
-use Rattle.threshold.proofs.Stages.{stage_uniform_repeats}
-use Rattle.checker.specs.Verdict.{answer, workspace_for, judged_reading, verdict}
-use Rattle.checker.specs.Trials.{correctness_at, uniformity_at, both_passes, trials_of, trials_by_outcome, trials, most_trials, forecast_for, no_forecast, forecast}
-use Rattle.checker.specs.Accepted.{CorrectAt, SoundAt, SoundBefore, Explained}
-use Rattle.checker.specs.Accepted.{refusal, fault_8, fault_9, fault_10, fault_12, fault_13, fault_14, accepted}
-use Rattle.checker.specs.declared.Verdict.{Verdict}
-use Rattle.checker.specs.declared.Forecast.{Forecast}
+use Rattle.sharing.proofs.Tests.{correct↔, uniform↔}
+use Rattle.sharing.proofs.Stages.{stage_uniform_repeats}
+use Rattle.checker.specs.Verdict.{Verdict, answer, workspace_for, judged_reading, judged, verdict}
+use Rattle.checker.specs.Trials.{Forecast, correctness_at, uniformity_at, both_passes, trials_of, trials_by_outcome, trials, most_trials, forecast_for, no_forecast, forecast}
+use Rattle.checker.specs.Accepted.{CorrectAt, SoundAt, SoundBefore, Sound, ExplainedDesign}
+use Rattle.checker.specs.Accepted.{fault_8, fault_9, fault_10, fault_12, fault_13, fault_14, accepted}
 use Rattle.checker.proofs.Passes.{untried, twice_more, both_none, both_more, correctness_all, uniformity_all, correctness_most, uniformity_most}
 use Rattle.checker.proofs.Chaining.{chain_permutes}
-use Rattle.checker.proofs.Exactly.{explained, accepted_exactly, reason_zero}
+use Rattle.checker.proofs.Exactly.{judged_explained, verdict_reads, accepted_exactly, reason_zero}
 
 -- ---- the forecast
 
@@ -72,25 +71,24 @@ module _ (f : List ℕ) where
 correct_whole : (d : Design) (t : ℕ) → CorrectAt d t → correctness_at d t ≡ 2 ^ (d.m * d.s)
 correct_whole d t h = correctness_all d.m d.s (stage_of d t) ((correct↔ d.m d.s (stage_of d t)).1 h)
 
-module _ (f : List ℕ) (n : ℕ) (d : Design) (t : ℕ) (p : SoundBefore f n d t) where
+module _ (d : Design) (wf : WellFormed d) (t : ℕ) (p : SoundBefore d t) where
   uniform_whole : (i : ℕ) → i < d.k → SoundAt d i → uniformity_at d i ≡ 2 ^ (d.m * d.s)
   uniform_whole i l h =
-      let wf = read_formed f d p.judgeable.reads in
-      let table = chain_permutes d wf p.judgeable.box p.chain i l in
+      let table = chain_permutes d wf p.box p.chain i l in
       uniformity_all d.m d.s (stage_of d i)
-      (not-true _ (sym (stage_uniform_repeats d.m d.s (stage_of d i) (wf.stage i l) table h.correct) ∙ (uniform↔ d.m d.s (stage_of d i)).1 h.uniform))
+      (not-true _ (sym (stage_uniform_repeats d.m d.s (stage_of d i) (wf.stage i l).table (wf.stage i l).count table h.correct) ∙ (uniform↔ d.m d.s (stage_of d i)).1 h.uniform))
 
   both_whole : (i : ℕ) → i ≤ d.k → i ≤ t → both_passes d i ≡ 2 * i * 2 ^ (d.m * d.s)
   both_whole zero l h = omega (arith, both_none d)
   both_whole (suc i) l h =
-      let s = p.before i (omega arith) in
+      let s = p.stages i (omega arith) in
       let q : both_passes d (suc i) ≡ correctness_at d i + uniformity_at d i + both_passes d i = rw add-one at (both_more d i) in
       let e = twice_more i (2 ^ (d.m * d.s)) in
       omega (arith, correct_whole d i s.correct, uniform_whole i (omega arith) s, both_whole i (omega arith) (omega arith))
 
 -- ---- the trials by outcome, and that none takes more than is forecast
 
--- what holds of the trials of a verdict v on a file that reads as d
+-- what holds of the trials of a verdict v on d
 record Taken (d : Design) (v : Verdict) : Type 0 where
   listed : trials_of d v ≡ trials_by_outcome d v
   most : trials_of d v ≤ most_trials d.m d.s d.k
@@ -104,12 +102,12 @@ module _ (d : Design) where
   none_taken v l h = record { listed = untried d v l h ∙ sym (none_listed v l h); most = omega (arith, untried d v l h) }
 
 -- stage t has the fault: x is t, as a place less 1
-module _ (f : List ℕ) (n : ℕ) (d : Design) (t : ℕ) (p : SoundBefore f n d t) (l : t < d.k) where
+module _ (d : Design) (wf : WellFormed d) (t : ℕ) (p : SoundBefore d t) (l : t < d.k) where
   abbrev sharings : ℕ
   sharings = 2 ^ (d.m * d.s)
 
   before : (x : ℕ) → x ≡ t → both_passes d x ≡ 2 * x * sharings
-  before x e = both_whole f n d t p x (omega arith) (omega arith)
+  before x e = both_whole d wf t p x (omega arith) (omega arith)
 
   -- two passes more are still within the most
   room : (x : ℕ) → x ≡ t → 2 * x * sharings + sharings + sharings ≤ 2 * d.k * sharings
@@ -146,27 +144,20 @@ module _ (f : List ℕ) (n : ℕ) (d : Design) (t : ℕ) (p : SoundBefore f n d 
         let q : both_passes d (t + 1) ≡ correctness_at d x + uniformity_at d x + both_passes d x = rw e (both_more d t) in
         record { listed = omega (arith, once_more x e); most = omega (arith, before x e, room x e, correctness_most d x, uniformity_most d x) }
 
-taken_0 : (f : List ℕ) (n : ℕ) (d : Design) → SoundBefore f n d d.k → Taken d (answer 0 d.k 0)
+taken_0 : (d : Design) → WellFormed d → Sound d → Taken d (answer 0 d.k 0)
 unfolding trials_of
-taken_0 f n d p =
-    let e = both_whole f n d d.k p d.k (le_refl d.k) (le_refl d.k) in
+taken_0 d wf p =
+    let e = both_whole d wf d.k p d.k (le_refl d.k) (le_refl d.k) in
     record { listed = e; most = omega (arith, e) }
 
-taken : (f : List ℕ) (n : ℕ) (v : Verdict) → Explained f n v → (d : Design) → reading f ≡ means d → Taken d v
-taken f n v why d reads = subst (λ (x : Design). Taken x v) (sym (read_means f d reads)) (by_outcome v why)
-  where
-    of : (v : Verdict) (e : Design) → reading f ≡ means e → Taken e v → Taken (meaning f) v
-    of v e r h = subst (λ (x : Design). Taken x v) (read_means f e r) h
-
-    by_outcome : (v : Verdict) → Explained f n v → Taken (meaning f) v
-    by_outcome v (refusal r p e w) = let b = reason_range f r p e in none_taken (meaning f) v b.0 (omega arith)
-    by_outcome v (fault_8 e r h) = none_taken (meaning f) v (omega arith) (omega arith)
-    by_outcome v (fault_9 e r b h) = none_taken (meaning f) v (omega arith) (omega arith)
-    by_outcome v (fault_10 e r h) = none_taken (meaning f) v (omega arith) (omega arith)
-    by_outcome v (fault_12 e t p l h) = of v e p.judgeable.reads (taken_12 f n e t p l)
-    by_outcome v (fault_13 e t j p l c k b h) = of v e p.judgeable.reads (taken_13 f n e t p l c (j + 1))
-    by_outcome v (fault_14 e t p l c o h) = of v e p.judgeable.reads (taken_14 f n e t p l c)
-    by_outcome v (accepted e p) = of v e p.judgeable.reads (taken_0 f n e p)
+taken : (n : ℕ) (d : Design) → WellFormed d → (v : Verdict) → ExplainedDesign n d v → Taken d v
+taken n d wf v (fault_8 h) = none_taken d v (omega arith) (omega arith)
+taken n d wf v (fault_9 b h) = none_taken d v (omega arith) (omega arith)
+taken n d wf v (fault_10 b r h) = none_taken d v (omega arith) (omega arith)
+taken n d wf v (fault_12 t r p l h) = taken_12 d wf t p l
+taken n d wf v (fault_13 t j r p l c k b h) = taken_13 d wf t p l c (j + 1)
+taken n d wf v (fault_14 t r p l c o h) = taken_14 d wf t p l c
+taken n d wf v (accepted r p) = taken_0 d wf p
 
 -- ---- the trials of a verdict on a file
 
@@ -180,15 +171,18 @@ module _ (f : List ℕ) (n : ℕ) where
   trials_none l h = untried (meaning f) (verdict f n) l h
 
   module _ (d : Design) (reads : reading f ≡ means d) where
-    of_design : trials f n ≡ trials_of d (verdict f n)
+    of_read : trials f n ≡ trials_of d (verdict f n)
     unfolding trials
-    of_design = ap (λ (x : Design). trials_of x (verdict f n)) (sym (read_means f d reads))
+    of_read = ap (λ (x : Design). trials_of x (verdict f n)) (sym (read_means f d reads))
+
+    as_taken : Taken d (verdict f n)
+    as_taken = let wf = read_formed f d reads in rw (verdict_reads f n d reads) (taken n d wf (judged d n) (judged_explained n d wf))
 
     pub trials_outcome : trials f n ≡ trials_by_outcome d (verdict f n)
-    trials_outcome = of_design ∙ (taken f n (verdict f n) (explained f n) d reads).listed
+    trials_outcome = of_read ∙ as_taken.listed
 
     within : trials f n ≤ (forecast f).trials
-    within = let q = ap (λ (x : Forecast). x.trials) (forecast_reads f d reads) in omega (arith, of_design, (taken f n (verdict f n) (explained f n) d reads).most)
+    within = let q = ap (λ (x : Forecast). x.trials) (forecast_reads f d reads) in omega (arith, of_read, as_taken.most)
 
   pub trials_accepted : (verdict f n).reason ≡ 0 → (d : Design) × (reading f ≡ means d) × (trials f n ≡ most_trials d.m d.s d.k)
   trials_accepted z =

@@ -11,26 +11,26 @@ use lib.Seq.{drop_at}
 use lib.Dec.{leb}
 use borrow.Author.Tests.{le-leb, lt-leb}
 use Rattle.finite.specs.Faults.{first_fault}
-use Rattle.finite.proofs.Testing.{and_intro, and_false_right, pick_true, pick_false}
+use Rattle.std.proofs.lemmas.Bool.{and_from, and_right}
+use Rattle.finite.proofs.Testing.{pick_true, pick_false}
 use Rattle.finite.proofs.Faults.{fault_none, fault_append, fault_either}
-use Rattle.design.specs.Design.{Stage, Design}
-use Rattle.checker.specs.Verdict.{answer, workspace_for, stage_faults, stages_faults, zeroed, workspace_left}
-use Rattle.checker.specs.Inside.Parts.{chain_judged}
-use Rattle.checker.specs.declared.Verdict.{Verdict}
+use Rattle.records.specs.Design.{Stage, Design}
+use Rattle.checker.specs.Verdict.{Verdict, answer, workspace_for, stage_faults, stages_faults, zeroed, workspace_left}
+use Rattle.checker.specs.Inside.Parts.{stages_judged}
 
 -- ---- what a verdict leaves, by its reason
 
 module _ (d : Design) (reason : ℕ) (ws : List ℕ) where
   pub untouched : 1 ≤ reason → reason ≤ 9 → workspace_left d reason ws ≡ ws
   unfolding workspace_left
-  untouched l h = pick_true _ _ _ (and_intro (le-leb 1 reason l) (le-leb reason 9 h))
+  untouched l h = pick_true _ _ _ (and_from _ _ (le-leb 1 reason l) (le-leb reason 9 h))
 
   pub cleared : (reason ≡ 0) ⊎ (10 ≤ reason) → workspace_left d reason ws ≡ zeroed (workspace_for d.m d.s) ws
   unfolding workspace_left
   cleared (inl z) = rw z refl
-  cleared (inr h) = pick_false _ _ _ (and_false_right (leb 1 reason) (leb reason 9) (lt-leb reason 9 h))
+  cleared (inr h) = pick_false _ _ _ (and_right (leb 1 reason) (leb reason 9) (lt-leb reason 9 h))
 
--- past 8 and 9 the reason is 0, or 10 and above
+-- past 8, 9 and 10 the reason is 0, or above 10
 abbrev Late : Verdict → Type 0
 Late v = (v.reason ≡ 0) ⊎ (10 ≤ v.reason)
 
@@ -43,9 +43,9 @@ late_stages d i (g ∷ gs) =
     (λ e. fault_either Late _ _ _ _ (λ e. inr (omega arith))
     (λ e. fault_either Late _ _ _ _ (λ e. inr (omega arith)) (λ e. rw fault_none (late_stages d (suc i) gs)))))
 
-pub late_reasons : (d : Design) → Late (chain_judged d)
-unfolding chain_judged
-late_reasons d = fault_either Late _ _ _ _ (λ e. inr (omega arith)) (λ e. late_stages d 1 d.stages)
+pub late_reasons : (d : Design) → Late (stages_judged d)
+unfolding stages_judged
+late_reasons d = late_stages d 1 d.stages
 
 -- ---- zeroed bytes stay so, and are as many
 
@@ -79,11 +79,5 @@ module _ (l₀ l : List ℕ) (e : l ≡ l₀) where
   pub same_zeroed : (n : ℕ) → zeroed n l₀ ≡ l₀ → zeroed n l ≡ l
   same_zeroed n h = ap (zeroed n) e ∙ h ∙ sym e
 
-  pub same_length : length l ≡ length l₀
-  same_length = ap length e
-
   pub same_through : (l₁ : List ℕ) → l₁ ≡ l → l₁ ≡ l₀
   same_through l₁ q = q ∙ e
-
-  pub same_length_through : (l₁ : List ℕ) → l₁ ≡ l → length l₁ ≡ length l₀
-  same_length_through l₁ q = ap length (q ∙ e)

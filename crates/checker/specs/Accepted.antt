@@ -1,14 +1,13 @@
 -- What the verdict says of a design, as facts about its tables and component functions ("Terms of threshold implementation", "Linear layers that keep
--- their shares"); and when a file is accepted ("Verdict").
+-- their shares"); then of a file: when it is accepted ("Verdict").
 use Rattle.std.specs.Prelude.{ℕ, ◌+◌, ◌^◌, ◌<◌, ◌≤◌, ◌≡◌, List}
 use Rattle.anf.specs.Tables.{entry, Permutation}
-use Rattle.design.specs.Design.{Design, stage_of}
+use Rattle.records.specs.Design.{Design, stage_of}
 use Rattle.design.specs.Reading.{refused, means, reading}
 use Rattle.design.specs.Refused.{RefusedFor}
-use Rattle.threshold.specs.Stages.{component, output, Correct, IgnoresSome, NonComplete, Uniform}
-use Rattle.threshold.specs.Chain.{chained}
-use Rattle.checker.specs.Verdict.{answer, workspace_for}
-use Rattle.checker.specs.declared.Verdict.{Verdict}
+use Rattle.sharing.specs.Stages.{component, output, Correct, IgnoresSome, NonComplete, Uniform}
+use Rattle.sharing.specs.Chain.{chained}
+use Rattle.checker.specs.Verdict.{Verdict, answer, workspace_for}
 
 -- the chain of tables is S
 abbrev pub ChainIsBox : Design → Type 0
@@ -39,37 +38,42 @@ pub record SoundAt (d : Design) (t : ℕ) : Type 0 where
   pub non_complete : NonCompleteAt d t
   pub uniform : UniformAt d t
 
--- ---- when the file f, which reads as d, is accepted with a workspace of n bytes
+-- ---- of a design, in a file or not
 
+-- no fault up to stage t: S is a permutation, the chain of tables is S, and each stage before t is sound
+pub record SoundBefore (d : Design) (t : ℕ) : Type 0 where
+  pub box : Permutation d.m d.box
+  pub chain : ChainIsBox d
+  pub stages : (i : ℕ) → i < t → SoundAt d i
+
+-- no fault at all
+abbrev pub Sound : Design → Type 0
+Sound d = SoundBefore d d.k
+
+-- n bytes of workspace are enough
+abbrev pub HasRoom : ℕ → Design → Type 0
+HasRoom n d = workspace_for d.m d.s ≤ n
+
+-- The verdict on a design explained, one case for each outcome in the published order: the fault that it names is there, and none before it is.
+pub data ExplainedDesign (n : ℕ) (d : Design) : Verdict → Type 0 where
+  fault_8 : ¬ Permutation d.m d.box → ExplainedDesign n d (answer 8 0 0)
+  fault_9 : Permutation d.m d.box → n < workspace_for d.m d.s → ExplainedDesign n d (answer 9 0 0)
+  fault_10 : Permutation d.m d.box → HasRoom n d → ¬ ChainIsBox d → ExplainedDesign n d (answer 10 0 0)
+  fault_12 : (t : ℕ) → HasRoom n d → SoundBefore d t → t < d.k → ¬ CorrectAt d t → ExplainedDesign n d (answer 12 (t + 1) 0)
+  fault_13 : (t j : ℕ) → HasRoom n d → SoundBefore d t → t < d.k → CorrectAt d t → j < d.s → ((i : ℕ) → i < j → IgnoresSomeAt d t i) → ¬ IgnoresSomeAt d t j
+      → ExplainedDesign n d (answer 13 (t + 1) (j + 1))
+  fault_14 : (t : ℕ) → HasRoom n d → SoundBefore d t → t < d.k → CorrectAt d t → NonCompleteAt d t → ¬ UniformAt d t → ExplainedDesign n d (answer 14 (t + 1) 0)
+  accepted : HasRoom n d → Sound d → ExplainedDesign n d (answer 0 d.k 0)
+
+-- ---- of a file f, with a workspace of n bytes
+
+-- it reads as d, and is accepted
 pub record Accepted (f : List ℕ) (n : ℕ) (d : Design) : Type 0 where
   pub reads : reading f ≡ means d
-  pub box : Permutation d.m d.box
-  pub room : workspace_for d.m d.s ≤ n
-  pub chain : ChainIsBox d
-  pub stages : (t : ℕ) → t < d.k → SoundAt d t
+  pub room : HasRoom n d
+  pub sound : Sound d
 
--- ---- the verdict explained: the fault that it names, and that none before it in the published order is there
-
--- none of the faults up to 9
-pub record Judgeable (f : List ℕ) (n : ℕ) (d : Design) : Type 0 where
-  pub reads : reading f ≡ means d
-  pub box : Permutation d.m d.box
-  pub room : workspace_for d.m d.s ≤ n
-
--- none of the faults up to 10, and none in the stages before stage t
-pub record SoundBefore (f : List ℕ) (n : ℕ) (d : Design) (t : ℕ) : Type 0 where
-  pub judgeable : Judgeable f n d
-  pub chain : ChainIsBox d
-  pub before : (i : ℕ) → i < t → SoundAt d i
-
--- one case for each outcome, in the published order
+-- the verdict on it explained: it is refused by reading, or reads as a design whose verdict is explained
 pub data Explained (f : List ℕ) (n : ℕ) : Verdict → Type 0 where
   refusal : (r p : ℕ) → reading f ≡ refused r p → RefusedFor f r p → Explained f n (answer r p 0)
-  fault_8 : (d : Design) → reading f ≡ means d → ¬ Permutation d.m d.box → Explained f n (answer 8 0 0)
-  fault_9 : (d : Design) → reading f ≡ means d → Permutation d.m d.box → n < workspace_for d.m d.s → Explained f n (answer 9 0 0)
-  fault_10 : (d : Design) → Judgeable f n d → ¬ ChainIsBox d → Explained f n (answer 10 0 0)
-  fault_12 : (d : Design) (t : ℕ) → SoundBefore f n d t → t < d.k → ¬ CorrectAt d t → Explained f n (answer 12 (t + 1) 0)
-  fault_13 : (d : Design) (t j : ℕ) → SoundBefore f n d t → t < d.k → CorrectAt d t → j < d.s → ((i : ℕ) → i < j → IgnoresSomeAt d t i) → ¬ IgnoresSomeAt d t j
-      → Explained f n (answer 13 (t + 1) (j + 1))
-  fault_14 : (d : Design) (t : ℕ) → SoundBefore f n d t → t < d.k → CorrectAt d t → NonCompleteAt d t → ¬ UniformAt d t → Explained f n (answer 14 (t + 1) 0)
-  accepted : (d : Design) → SoundBefore f n d d.k → Explained f n (answer 0 d.k 0)
+  of_design : (d : Design) → reading f ≡ means d → (v : Verdict) → ExplainedDesign n d v → Explained f n v

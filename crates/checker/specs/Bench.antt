@@ -1,16 +1,12 @@
 -- "Bench designs" of the verdict with its trials, of the forecast and of running: tables of files, what they are given, and answers. And how often what a
 -- component reads is met.
 use Rattle.std.specs.Prelude.{ℕ, List, [], ◌∷◌}
-use Rattle.design.specs.Design.{Stage}
-use Rattle.design.specs.Encode.{encode}
+use Rattle.records.specs.Design.{Stage}
+use Rattle.records.specs.Encode.{encode}
 use Rattle.design.specs.Bench.{file_d}
-use Rattle.threshold.specs.Running.{refused_run}
-use Rattle.threshold.specs.declared.Ran.{Ran}
-use Rattle.checker.specs.Verdict.{answer}
-use Rattle.checker.specs.Trials.{counted}
-use Rattle.checker.specs.declared.Verdict.{Verdict}
-use Rattle.checker.specs.declared.Judged.{Judged}
-use Rattle.checker.specs.declared.Forecast.{Forecast}
+use Rattle.threshold.specs.Running.{Ran, refused_run}
+use Rattle.checker.specs.Verdict.{Verdict, answer}
+use Rattle.checker.specs.Trials.{Forecast, Judged, counted}
 
 -- D with the box S, the table and the three lists of its stage replaced
 abbrev pub variant_d : List ℕ → List ℕ → List ℕ → List ℕ → List ℕ → List ℕ

@@ -2,14 +2,11 @@
 use Rattle.std.specs.Prelude.{ℕ, Result, Ok, Err}
 use Rattle.reasons.specs.Numbers.{number}
 use Rattle.reasons.specs.declared.Reason.{Reason}
-use Rattle.checker.specs.Verdict.{answer}
-use Rattle.checker.specs.Trials.{counted, no_forecast}
+use Rattle.checker.specs.Verdict.{Verdict, answer}
+use Rattle.checker.specs.Trials.{Forecast, Judged, counted, no_forecast}
 use Rattle.checker.specs.declared.Refusal.{Refusal}
 use Rattle.checker.specs.declared.Judgement.{Judgement}
-use Rattle.checker.specs.declared.Verdict.{Verdict}
-use Rattle.checker.specs.declared.Judged.{Judged}
 use Rattle.checker.specs.declared.Needs.{Needs}
-use Rattle.checker.specs.declared.Forecast.{Forecast}
 
 abbrev pub refusal : Reason → ℕ → ℕ → Refusal
 refusal r place component = record { reason = r; place = place; component = component }
@@ -25,6 +22,10 @@ verdict_of (Err r) = refused_with r
 
 abbrev pub judged_of : Judgement → Judged
 judged_of j = counted (verdict_of j.outcome) j.trials
+
+-- a refusal before any trial
+abbrev pub untried : Refusal → Judged
+untried r = counted (refused_with r) 0
 
 -- a head record that is refused needs nothing
 abbrev pub forecast_of : Result Needs Reason → Forecast

@@ -3,14 +3,11 @@
 use Rattle.std.specs.Prelude.{ℕ, ◌+◌, ◌*◌, ◌-◌, ◌^◌, Bool, not, ◌&&◌, ◌||◌, List, eqb, leb}
 use Rattle.finite.specs.Tests.{pick, tried, total}
 use Rattle.finite.specs.Maps.{met_before}
-use Rattle.design.specs.Design.{Stage, Design, stage_of}
+use Rattle.records.specs.Design.{Stage, Design, stage_of}
 use Rattle.design.specs.Reading.{head_of, head_fault, meaning}
 use Rattle.design.specs.Limits.{Head}
-use Rattle.threshold.specs.Stages.{output, sums_right}
-use Rattle.checker.specs.Verdict.{workspace_for, verdict}
-use Rattle.checker.specs.declared.Verdict.{Verdict}
-use Rattle.checker.specs.declared.Judged.{Judged}
-use Rattle.checker.specs.declared.Forecast.{Forecast}
+use Rattle.sharing.specs.Stages.{output, sums_right}
+use Rattle.checker.specs.Verdict.{Verdict, workspace_for, verdict}
 
 -- ---- The two passes over the sharings of a stage: each tries the sharings as numbers from 0 on and stops after the first with a fault, which counts.
 
@@ -66,6 +63,10 @@ trials f n = trials_of (meaning f) (verdict f n)
 
 -- ---- The verdict with its trials
 
+pub record Judged : Type 0 where
+  pub verdict : Verdict
+  pub trials : ℕ
+
 abbrev pub counted : Verdict → ℕ → Judged
 counted v n = record { verdict = v; trials = n }
 
@@ -73,6 +74,12 @@ unfoldable pub judging : List ℕ → ℕ → Judged
 judging f n = counted (verdict f n) (trials f n)
 
 -- ---- The forecast
+
+-- the number of a refusal, or 0, bytes of workspace, and the most trials
+pub record Forecast : Type 0 where
+  pub reason : ℕ
+  pub workspace : ℕ
+  pub trials : ℕ
 
 -- the most trials of k stages of width m with s shares
 abbrev pub most_trials : ℕ → ℕ → ℕ → ℕ

@@ -4,13 +4,17 @@ use Rattle.finite.specs.Tests.{pick, all, first}
 use Rattle.finite.specs.Maps.{repeats}
 use Rattle.finite.specs.Faults.{first_fault}
 use Rattle.anf.specs.Tables.{entry}
-use Rattle.design.specs.Design.{Stage, Design}
+use Rattle.records.specs.Design.{Stage, Design}
 use Rattle.design.specs.Reading.{Reading, refused, means, meaning, reading}
-use Rattle.threshold.specs.Stages.{correct, depends_on_all, non_complete, uniform}
-use Rattle.threshold.specs.Chain.{chained}
-use Rattle.checker.specs.declared.Verdict.{Verdict}
+use Rattle.sharing.specs.Stages.{correct, depends_on_all, non_complete, uniform}
+use Rattle.sharing.specs.Chain.{chained}
 
 -- the three numbers
+pub record Verdict : Type 0 where
+  pub reason : ℕ
+  pub place : ℕ
+  pub component : ℕ
+
 abbrev pub answer : ℕ → ℕ → ℕ → Verdict
 answer reason place component = record { reason = reason; place = place; component = component }
 

@@ -6,13 +6,12 @@ mod marks; // marks.rt: marks in a lent workspace
 mod stages; // stages.rt: one stage judged on all its sharings
 mod tables; // tables.rt: the chain of tables
 
-ghost use Rattle.std.specs.Prelude.{◌≡◌, ◌+◌, ◌<◌, length};
-ghost use Rattle.anf.specs.Tables.{Permutation};
-ghost use Rattle.design.specs.Reading.{meaning};
-ghost use Rattle.checker.specs.Verdict.{judged, verdict, workspace_left, workspace_after};
-ghost use Rattle.checker.specs.Trials.{both_passes, trials_of, trials as trials_on, judging};
-ghost use Rattle.checker.specs.Outcome.{refusal, verdict_of, judged_of};
-ghost use Rattle.checker.specs.Inside.Parts.{TablesPermute, stage_judged, stages_judged, chain_judged, stage_tries, fault_of};
+ghost use Rattle.std.specs.Prelude.{◌≡◌, ◌<◌, length};
+ghost use Rattle.design.specs.Inside.Held.{design_of};
+ghost use Rattle.checker.specs.Verdict.{judged, workspace_left, workspace_after};
+ghost use Rattle.checker.specs.Trials.{judging};
+ghost use Rattle.checker.specs.Outcome.{refusal, judged_of, untried};
+ghost use Rattle.checker.specs.Inside.Parts.{TablesPermute, with_trials, stages_judged, stage_judging, stage_judged_of};
 ghost use Rattle.checker.specs.Inside.Marks.{Cleared};
 
 use design::{DesignFile, ReadError};
@@ -21,7 +20,6 @@ use forecasts::workspace_for;
 use marks::clear;
 use reasons::Reason;
 use stages::{first_met, first_wrong, offending, tries};
-use std::fmt;
 use tables::chain_is_box;
 
 /// Why a file is refused, and the place and the component that the reason names: 0 where it names none, as published.
@@ -62,21 +60,23 @@ pub struct Judgement {
     pub trials: usize,
 }
 
-// Reason, place and component, as the paper numbers them, with reason 0 for what is accepted: for C, which has no Result.
-#[repr(C)]
-#[derive(Clone, Copy)]
-pub struct Verdict {
-    pub reason: usize,
-    pub place: usize,
-    pub component: usize,
+impl Judgement {
+    // A refusal before any trial.
+    fn untried(refusal: Refusal) -> Judgement
+        ensures { judged_of result ≡ untried refusal }
+    {
+        Judgement {
+            outcome: Err(refusal),
+            trials: 0,
+        }
+    }
 }
 
-// A verdict, and how many trials it took: for C, which has no Result.
-#[repr(C)]
+// What judging a stage comes to: its fault, if it has one, and the trials that its passes took.
 #[derive(Clone, Copy)]
-pub struct Judged {
-    pub verdict: Verdict,
-    pub trials: usize,
+struct StageJudgement {
+    fault: Option<Refusal>,
+    trials: usize,
 }
 
 /// What a verdict can take: bytes of workspace, and the most trials.
@@ -86,172 +86,82 @@ pub struct Needs {
     pub trials: usize,
 }
 
-// The needs, both 0 where the head record is refused, and the reason: for C, which has no Result.
-#[repr(C)]
-#[derive(Clone, Copy)]
-pub struct Forecast {
-    pub reason: usize,
-    pub workspace: usize,
-    pub trials: usize,
-}
-
-impl From<Result<usize, Refusal>> for Verdict {
-    ghost use Rattle.checker.specs.Outcome.{verdict_of};
-
-    ghost from_gives = { λ outcome v. v ≡ verdict_of outcome };
-
-    fn from(outcome: Result<usize, Refusal>) -> Verdict {
-        match outcome {
-            Ok(place) => Verdict {
-                reason: 0,
-                place,
-                component: 0,
-            },
-            Err(refusal) => Verdict {
-                reason: refusal.reason.number(),
-                place: refusal.place,
-                component: refusal.component,
-            },
-        }
-    }
-}
-
-/// Reason, place and component in numbers.
-impl fmt::Display for Verdict {
-    fn fmt<W: fmt::Write>(&self, f: &mut fmt::Formatter<W>) -> fmt::Result {
-        write!(f, "{} {} {}", self.reason, self.place, self.component)
-    }
-}
-
-impl From<Judgement> for Judged {
-    ghost use Rattle.checker.specs.Outcome.{judged_of};
-
-    ghost from_gives = { λ judgement v. v ≡ judged_of judgement };
-
-    fn from(judgement: Judgement) -> Judged {
-        Judged {
-            verdict: Verdict::from(judgement.outcome),
-            trials: judgement.trials,
-        }
-    }
-}
-
-impl From<Result<Needs, Reason>> for Forecast {
-    ghost use Rattle.checker.specs.Outcome.{forecast_of};
-
-    ghost from_gives = { λ needs v. v ≡ forecast_of needs };
-
-    fn from(needs: Result<Needs, Reason>) -> Forecast {
-        match needs {
-            Ok(needs) => Forecast {
-                reason: 0,
-                workspace: needs.workspace,
-                trials: needs.trials,
-            },
-            Err(reason) => Forecast {
-                reason: reason.number(),
-                workspace: 0,
-                trials: 0,
-            },
-        }
-    }
-}
-
-// The fault of stage `t`, counted from 0, if it has one: 12, 13 or 14. The marks are zero before and after. From here up the workspace and the count of trials
-// are lent beside the design: a struct of them is no plainer, as each contract says of each by itself what it is afterwards.
-fn judge_stage(
-    design: &DesignFile<'_>,
-    t: usize,
-    workspace: &mut [u8],
-    trials: &mut usize,
-) -> Result<(), Refusal>
-    requires { (t < design.now.head.k) × Cleared design.now.head.m design.now.head.s workspace.old × TablesPermute (meaning design.now.file.now)
-        × (trials.old ≡ both_passes (meaning design.now.file.now) t) }
-    ensures value { fault_of result ≡ stage_judged (meaning design.now.file.now) t }
-    ensures trials { trials.new ≡ both_passes (meaning design.now.file.now) t + stage_tries (meaning design.now.file.now) t (stage_judged (meaning design.now.file.now) t).reason }
+// Stage `t`, counted from 0: 12, 13 or 14. The marks are zero before and after. From here up the workspace is lent beside the design: a struct of both is no
+// plainer, as each contract says of it by itself what it is afterwards.
+fn judge_stage(design: &DesignFile<'_>, t: usize, workspace: &mut [u8]) -> StageJudgement
+    requires { (t < design.now.head.k) × Cleared (design_of design.now) workspace.old × TablesPermute (design_of design.now) }
+    ensures value { stage_judged_of result ≡ stage_judging (design_of design.now) t }
     ensures workspace_unchanged { workspace.new ≡ workspace.old }
 {
     let wrong = first_wrong(design, t);
-    *trials += tries(design.head, wrong);
+    let once = tries(design.head, wrong);
     if wrong.is_some() {
-        return Err(Refusal::new(Reason::NotCorrect, t + 1, 0));
+        return StageJudgement {
+            fault: Some(Refusal::new(Reason::NotCorrect, t + 1, 0)),
+            trials: once,
+        };
     }
     if let Some(j) = offending(design, t) {
-        return Err(Refusal::new(Reason::NotNonComplete, t + 1, j + 1));
+        return StageJudgement {
+            fault: Some(Refusal::new(Reason::NotNonComplete, t + 1, j + 1)),
+            trials: once,
+        };
     }
     let met = first_met(design, t, workspace);
-    *trials += tries(design.head, met);
+    let both = once + tries(design.head, met);
     if met.is_some() {
-        return Err(Refusal::new(Reason::NotUniform, t + 1, 0));
+        return StageJudgement {
+            fault: Some(Refusal::new(Reason::NotUniform, t + 1, 0)),
+            trials: both,
+        };
     }
-    Ok(())
+    StageJudgement {
+        fault: None,
+        trials: both,
+    }
 }
 
-// The stages, each judged.
-fn judge_stages(
-    design: &DesignFile<'_>,
-    workspace: &mut [u8],
-    trials: &mut usize,
-) -> Result<usize, Refusal>
-    requires { Cleared design.now.head.m design.now.head.s workspace.old × TablesPermute (meaning design.now.file.now) × (trials.old ≡ 0) }
-    ensures value { verdict_of result ≡ stages_judged (meaning design.now.file.now) }
-    ensures trials { trials.new ≡ trials_of (meaning design.now.file.now) (stages_judged (meaning design.now.file.now)) }
+// The stages, each judged, up to the first with a fault. Here alone trials add up.
+fn judge_stages(design: &DesignFile<'_>, workspace: &mut [u8]) -> Judgement
+    requires { Cleared (design_of design.now) workspace.old × TablesPermute (design_of design.now) }
+    ensures value { judged_of result ≡ with_trials (design_of design.now) (stages_judged (design_of design.now)) }
     ensures workspace_unchanged { workspace.new ≡ workspace.old }
 {
     let k = design.head.k;
+    let mut trials = 0;
     for t in 0..k {
-        judge_stage(design, t, workspace, trials)?;
+        let stage = judge_stage(design, t, workspace);
+        trials += stage.trials;
+        if let Some(refusal) = stage.fault {
+            return Judgement {
+                outcome: Err(refusal),
+                trials,
+            };
+        }
     }
-    Ok(k)
-}
-
-// The chain of tables and the stages: 10 and above. The marks are zero before and after.
-fn judge_chain(
-    design: &DesignFile<'_>,
-    workspace: &mut [u8],
-    trials: &mut usize,
-) -> Result<usize, Refusal>
-    requires { Cleared design.now.head.m design.now.head.s workspace.old × Permutation (meaning design.now.file.now).m (meaning design.now.file.now).box × (trials.old ≡ 0) }
-    ensures value { verdict_of result ≡ chain_judged (meaning design.now.file.now) }
-    ensures trials { trials.new ≡ trials_of (meaning design.now.file.now) (chain_judged (meaning design.now.file.now)) }
-    ensures workspace_unchanged { workspace.new ≡ workspace.old }
-{
-    if !chain_is_box(design) {
-        return Err(Refusal::new(Reason::ChainIsNotBox, 0, 0));
+    Judgement {
+        outcome: Ok(k),
+        trials,
     }
-    judge_stages(design, workspace, trials)
 }
 
 // The design of a file that reads: 8 and above.
-fn judge_design(
-    design: &DesignFile<'_>,
-    workspace: &mut [u8],
-    trials: &mut usize,
-) -> Result<usize, Refusal>
-    requires { trials.old ≡ 0 }
-    ensures value { verdict_of result ≡ judged (meaning design.now.file.now) (length workspace.old) }
-    ensures trials { trials.new ≡ trials_of (meaning design.now.file.now) (judged (meaning design.now.file.now) (length workspace.old)) }
-    ensures workspace_after { workspace.new ≡ workspace_left (meaning design.now.file.now) (judged (meaning design.now.file.now) (length workspace.old)).reason workspace.old }
+fn judge_design(design: &DesignFile<'_>, workspace: &mut [u8]) -> Judgement
+    ensures value { judged_of result ≡ with_trials (design_of design.now) (judged (design_of design.now) (length workspace.old)) }
+    ensures workspace_after { workspace.new ≡ workspace_left (design_of design.now) (judged (design_of design.now) (length workspace.old)).reason workspace.old }
 {
     if anf::repeats(design.box_table()) {
-        return Err(Refusal::new(Reason::BoxRepeats, 0, 0));
+        return Judgement::untried(Refusal::new(Reason::BoxRepeats, 0, 0));
     }
     let n = workspace_for(design.head);
     if workspace.len() < n {
-        return Err(Refusal::new(Reason::WorkspaceTooSmall, 0, 0));
+        return Judgement::untried(Refusal::new(Reason::WorkspaceTooSmall, 0, 0));
     }
     clear(workspace, n);
-    judge_chain(design, workspace, trials)
-}
-
-// The verdict on a file, its trials counted from 0.
-fn judge_file(file: &[u8], workspace: &mut [u8], trials: &mut usize) -> Result<usize, Refusal>
-    requires { trials.old ≡ 0 }
-    ensures value { verdict_of result ≡ verdict file.now (length workspace.old) }
-    ensures trials { trials.new ≡ trials_on file.now (length workspace.old) }
-    ensures workspace_after { workspace.new ≡ workspace_after file.now workspace.old }
-{
-    judge_design(&design::read(file)?, workspace, trials)
+    if !chain_is_box(design) {
+        return Judgement::untried(Refusal::new(Reason::ChainIsNotBox, 0, 0));
+    }
+    judge_stages(design, workspace)
 }
 
 /// The verdict on a file, with a lent workspace, and its trials.
@@ -259,7 +169,8 @@ pub fn judge(file: &[u8], workspace: &mut [u8]) -> Judgement
     ensures value { judged_of result ≡ judging file.now (length workspace.old) }
     ensures workspace_after { workspace.new ≡ workspace_after file.now workspace.old }
 {
-    let mut trials = 0;
-    let outcome = judge_file(file, workspace, &mut trials);
-    Judgement { outcome, trials }
+    match design::read(file) {
+        Ok(design) => judge_design(&design, workspace),
+        Err(error) => Judgement::untried(Refusal::from(error)),
+    }
 }

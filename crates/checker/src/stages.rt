@@ -1,15 +1,13 @@
 // One stage judged on all its sharings. Stages and components are counted from 0.
-ghost use Rattle.std.specs.Prelude.{◌≡◌, ℕ, ◌*◌, ◌/◌, ◌^◌, ◌≤◌, ◌<◌, eqb, length, get_or, drop};
+ghost use Rattle.std.specs.Prelude.{◌≡◌, ◌*◌, ◌/◌, ◌^◌, ◌≤◌, ◌<◌, eqb, length, get_or, drop};
 ghost use Rattle.finite.specs.Maps.{met_before};
-ghost use Rattle.anf.specs.Terms.{named, names};
-ghost use Rattle.records.specs.Inside.Terms.{terms_of};
-ghost use Rattle.design.specs.Design.{stage_of};
-ghost use Rattle.design.specs.Reading.{meaning};
+ghost use Rattle.anf.specs.Terms.{named};
+ghost use Rattle.design.specs.Inside.Held.{design_of};
 ghost use Rattle.design.specs.Inside.Lists.{lists_held};
-ghost use Rattle.threshold.specs.Sharing.{sum};
-ghost use Rattle.threshold.specs.Inside.Variables.{variables, names_every};
-ghost use Rattle.threshold.specs.Stages.{output, depends_on_all};
-ghost use Rattle.checker.specs.Inside.Parts.{found, first_wrong, first_met, FoundBelow, tries_until, lists_name};
+ghost use Rattle.sharing.specs.Sharing.{sum};
+ghost use Rattle.sharing.specs.Inside.Variables.{variables, names_every};
+ghost use Rattle.sharing.specs.Stages.{output};
+ghost use Rattle.checker.specs.Inside.Parts.{found, first_wrong, offending, first_met, FoundBelow, tries_until};
 ghost use Rattle.checker.specs.Inside.Marks.{Clear, Cleared};
 
 use super::forecasts::workspace_for;
@@ -44,7 +42,7 @@ pub fn tries(head: Head, found: Option<u32>) -> usize
 #[inline(never)]
 pub fn first_wrong(design: &DesignFile<'_>, t: usize) -> Option<u32>
     requires { t < design.now.head.k }
-    ensures { result ≡ first_wrong design.now.head.m design.now.head.s (stage_of (meaning design.now.file.now) t) }
+    ensures { result ≡ first_wrong (design_of design.now) t }
 {
     let table = design.table(t);
     let n = two_to(design.head.share_bits());
@@ -79,7 +77,7 @@ fn names_every(set: u32, head: Head) -> bool
 /// left by a label, a form that the project asks for here (docs/DECISIONS.md, Forms).
 pub fn offending(design: &DesignFile<'_>, t: usize) -> Option<usize>
     requires { t < design.now.head.k }
-    ensures { result ≡ found design.now.head.s (depends_on_all design.now.head.m design.now.head.s (stage_of (meaning design.now.file.now) t)) }
+    ensures { result ≡ offending (design_of design.now) t }
 {
     let head = design.head;
     let mut found = None;
@@ -117,8 +115,8 @@ fn first_met_in(lists: &Lists<'_>, workspace: &mut [u8]) -> Option<u32>
 
 // The first sharing of stage `t` whose output sharing was met before. The marks are zero before and after.
 pub fn first_met(design: &DesignFile<'_>, t: usize, workspace: &mut [u8]) -> Option<u32>
-    requires { (t < design.now.head.k) × Cleared design.now.head.m design.now.head.s workspace.old }
-    ensures value { result ≡ first_met design.now.head.m design.now.head.s (stage_of (meaning design.now.file.now) t) }
+    requires { (t < design.now.head.k) × Cleared (design_of design.now) workspace.old }
+    ensures value { result ≡ first_met (design_of design.now) t }
     ensures workspace_unchanged { workspace.new ≡ workspace.old }
 {
     let n = workspace_for(design.head);

@@ -1,7 +1,7 @@
 // The chain of tables.
 ghost use Rattle.std.specs.Prelude.{◌≡◌, ◌^◌, ◌<◌};
-ghost use Rattle.design.specs.Reading.{meaning};
-ghost use Rattle.threshold.specs.Chain.{chained};
+ghost use Rattle.design.specs.Inside.Held.{design_of};
+ghost use Rattle.sharing.specs.Chain.{chained};
 ghost use Rattle.checker.specs.Verdict.{chain_is_box};
 
 use design::DesignFile;
@@ -9,7 +9,7 @@ use design::DesignFile;
 // What the tables of the stages make of `x`: that of the first stage is applied first.
 fn chained(design: &DesignFile<'_>, x: usize) -> usize
     requires { x < 2 ^ design.now.head.m }
-    ensures { result ≡ chained (meaning design.now.file.now).stages x }
+    ensures { result ≡ chained (design_of design.now).stages x }
 {
     let mut y = x;
     for t in 0..design.head.k {
@@ -20,7 +20,7 @@ fn chained(design: &DesignFile<'_>, x: usize) -> usize
 
 // Whether the chain of tables is S.
 pub fn chain_is_box(design: &DesignFile<'_>) -> bool
-    ensures { result ≡ chain_is_box (meaning design.now.file.now) }
+    ensures { result ≡ chain_is_box (design_of design.now) }
 {
     (0..design.head.points()).all(
         |x|

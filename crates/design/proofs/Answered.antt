@@ -1,42 +1,40 @@
--- What crates above take from the reader's answer: with reason 0 the file reads, what it means is well formed, and the head is the design's;
--- with another reason the definition refuses with that reason and place.
+-- What a layout says that is the reader's answer: with reason 0 the file reads, what it means is well formed, and the head is the design's; with another
+-- reason the definition refuses with that reason and place.
 use Prim.Native.Nat.{ℕ, ◌+◌, ◌<◌}
-use mathlib.Core.Path.{◌≡◌, refl, ap, ◌∙◌}
+use mathlib.Core.Path.{◌≡◌, refl, sym, ap, ◌∙◌, subst}
 use mathlib.Core.List.{List}
 use native.Mathlib.Omega.{arith}
 use lib.ListN.{get_or, get_or-append, drop}
 use Rattle.finite.specs.Tests.{tabulate}
 use Rattle.finite.proofs.Testing.{tabulate_length, tabulate_at}
-use Rattle.design.specs.Design.{Design, WellFormed}
-use Rattle.design.specs.Reading.{Reading, reason_of, place_of, refused, means, reading, meaning, head_of, place, last_of}
+use Rattle.records.specs.Design.{Design}
+use Rattle.design.specs.WellFormed.{WellFormed}
+use Rattle.design.specs.Reading.{Reading, refused, means, reading, meaning, head_of, place, last_of}
 use Rattle.design.specs.Layout.{no_starts, refused_layout, read_layout, layout_of_reading, layout_of, starts_to, start_of}
 use Rattle.design.specs.Inside.Described.{Describes}
 use Rattle.design.specs.Limits.{Head}
 use Rattle.design.specs.Layout.{Layout}
+use Rattle.design.specs.Heads.{design_by}
+use Rattle.reasons.specs.Numbers.{number}
+use Rattle.reasons.specs.declared.Reason.{Reason}
+use Rattle.reasons.proofs.Numbers.{number_some}
 use Rattle.design.proofs.Limits.{Bounds}
 use Rattle.design.proofs.Found.{limited}
 use Rattle.design.proofs.Formed.{formed}
 use Rattle.design.proofs.Reasons.{reason_range}
 use Rattle.design.proofs.Written.{read_means}
 
+-- the layout l describes the file f: the design that it reads as, by the numbers of its head
 pub record Readable (f : List ℕ) (l : Layout) : Type 0 where
-  pub read : reading f ≡ means (meaning f)
-  pub formed : WellFormed (meaning f)
-  pub m : l.head.m ≡ (meaning f).m
-  pub s : l.head.s ≡ (meaning f).s
-  pub k : l.head.k ≡ (meaning f).k
+  pub reads : reading f ≡ means (design_by l.head f)
+  pub formed : WellFormed (design_by l.head f)
   pub bounds : Bounds l.head.m l.head.s l.head.k
 
 pub described : {f : List ℕ} {l : Layout} → Describes f l → Readable f l
 unfolding meaning
-described {f} {l} d = record {
-  read = d.read;
-  formed = formed f d.read;
-  m = ap (λ (h : Head). h.m) d.head;
-  s = ap (λ (h : Head). h.s) d.head;
-  k = ap (λ (h : Head). h.k) d.head;
-  bounds = limited f l d;
-}
+described {f} {l} d =
+    let e : meaning f ≡ design_by l.head f = ap (λ (h : Head). design_by h f) (sym d.head) in
+    record { reads = d.read ∙ ap means e; formed = subst WellFormed e (formed f d.read); bounds = limited f l d }
 
 starts_at : (f : List ℕ) (n i : ℕ) → i < n → get_or (starts_to f n) i 0 ≡ place f i + 4
 unfolding starts_to start_of
@@ -70,26 +68,13 @@ module _ (f : List ℕ) (l : Layout) (a : l ≡ layout_of f) where
         starts = λ i h. ap (λ (x : Layout). get_or x.starts i 0) q ∙ starts_at f (last_of (head_of f) + 1) i h;
       }
 
-  pub answers_reason : l.reason ≡ reason_of (reading f)
-  unfolding layout_of
-  answers_reason = ap (λ (x : Layout). x.reason) a ∙ go (reading f)
-    where
-      go : (r : Reading) → (layout_of_reading f r).reason ≡ reason_of r
-      go (refused x y) = refl
-      go (means d) = refl
-
-  pub answers_place : l.place ≡ place_of (reading f)
-  unfolding layout_of
-  answers_place = ap (λ (x : Layout). x.place) a ∙ go (reading f)
-    where
-      go : (r : Reading) → (layout_of_reading f r).place ≡ place_of r
-      go (refused x y) = refl
-      go (means d) = refl
-
-  pub refuses : (l.reason ≡ 0 → ⊥) → reading f ≡ refused l.reason l.place
+  refuses : (l.reason ≡ 0 → ⊥) → reading f ≡ refused l.reason l.place
   unfolding layout_of
   refuses n = go (reading f) refl
     where
       go : (r : Reading) → reading f ≡ r → r ≡ refused l.reason l.place
       go (refused x y) e = let q : l ≡ refused_layout x y = a ∙ ap (layout_of_reading f) e in rw q refl
       go (means d) e = absurd (n (answers_zero d e))
+
+pub refused_as : (f : List ℕ) (r : Reason) (p : ℕ) → refused_layout (number r) p ≡ layout_of f → refused (number r) p ≡ reading f
+refused_as f r p a = sym (refuses f _ a (number_some r))

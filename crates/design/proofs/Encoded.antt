@@ -5,23 +5,24 @@ use mathlib.Core.Path.{◌≡◌, refl, sym, ap, ◌∙◌}
 use mathlib.Core.List.{List, [], ◌∷◌, ◌++◌}
 use mathlib.Core.Bool.{true, ◌||◌}
 use Rattle.finite.specs.Tests.{tabulate}
-use Rattle.finite.proofs.Testing.{all_intro}
+use Rattle.finite.proofs.Testing.{all_intro, tabulate_of}
 use Rattle.anf.specs.Terms.{before}
-use Rattle.design.specs.Limits.{greatest_terms}
+use Rattle.design.specs.Limits.{greatest_terms, Head}
 use Rattle.records.specs.Bytes.{byte, u16_at, u32_at, two, four, term_bytes}
-use Rattle.design.specs.Design.{Design, Stage, no_stage, stage_of, list_of, TableFits, ListFits, WellFormed}
-use Rattle.records.specs.Records.{join, a_record}
+use Rattle.records.specs.Design.{Design, Stage, no_stage, stage_of, list_of}
+use Rattle.anf.specs.Tables.{TableFits}
+use Rattle.design.specs.WellFormed.{ListFits, WellFormed}
+use Rattle.std.specs.List.{concat}
+use Rattle.records.specs.Records.{a_record}
 use Rattle.design.specs.Reading.{last_of, number_of, kind_due, size_due, length_due, entry_fits, previous, term_fits, fault_at}
-use Rattle.design.specs.Inside.Framing.{frame_fault}
 use Rattle.design.specs.Reading.{means, reading, walk, place, head_of, meaning, stage_at, table_at, list_at}
-use Rattle.design.specs.Limits.{Head}
+use Rattle.design.specs.Inside.Framing.{frame_fault}
 use Rattle.design.proofs.Flat.{head_for, stage_body, body_of, record_of, flat}
 use Rattle.design.proofs.Records.{body_fault, body_1, body_2, body_3, body_4, fault_body, entry_fits_lem, term_fits_lem}
 use Rattle.design.proofs.Walking.{place_next}
 use Rattle.records.proofs.TermBytes.{little_four, length_term_bytes}
 use Rattle.design.proofs.Found.{staged, record_cases, number_low}
-use Rattle.finite.proofs.Testing.{tabulate_of}
-use Rattle.records.proofs.Joined.{join_snoc, join_at}
+use Rattle.records.proofs.Concat.{concat_snoc, concat_at}
 use Rattle.design.proofs.Written.{body_stage, body_end, kind_end, last_two}
 use native.Mathlib.Omega.{arith}
 use native.Mathlib.Numerals.{add-one}
@@ -166,23 +167,23 @@ design_eq a b m s k x y = λ i. record { m = m i; s = s i; k = k i; box = x i; s
 
 module _ (d : Design) (w : WellFormed d) where
   abbrev at : ℕ → ℕ
-  at i = length (join (tabulate i (record_of d)))
+  at i = length (concat (tabulate i (record_of d)))
 
   stands_at : (i : ℕ) → i < last_of (head_for d) + 1 → Holds (flat d) (at i) (kind_due (head_for d) i) (body_of d i)
   unfolding flat record_of
   stands_at i u =
-      let r = join_at (record_of d) (last_of (head_for d) + 1) i u in
-      holds (flat d) (at i) (kind_due (head_for d) i) (body_of d i) r.0 (ap (drop (at i)) r.1 ∙ drop-append_seam (join (tabulate i (record_of d))) _)
+      let r = concat_at (record_of d) (last_of (head_for d) + 1) i u in
+      holds (flat d) (at i) (kind_due (head_for d) i) (body_of d i) r.0 (ap (drop (at i)) r.1 ∙ drop-append_seam (concat (tabulate i (record_of d))) _)
 
   at_zero : place (flat d) 0 ≡ at 0
-  unfolding place join tabulate
+  unfolding place tabulate
   at_zero = refl
 
   at_next : (i : ℕ) → at (suc i) ≡ at i + 4 + length (body_of d i)
   unfolding record_of a_record
   at_next i =
       let e : length (record_of d i) ≡ suc (suc (suc (suc (length (body_of d i))))) = refl in
-      ap length (join_snoc (record_of d) i) ∙ length-append (join (tabulate i (record_of d))) (record_of d i) ∙ omega arith
+      ap length (concat_snoc (record_of d) i) ∙ length-append (concat (tabulate i (record_of d))) (record_of d i) ∙ omega arith
 
   place_is : (i : ℕ) → i < last_of (head_for d) + 2 → place (flat d) i ≡ at i
   place_is zero u = at_zero

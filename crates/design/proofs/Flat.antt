@@ -5,9 +5,10 @@ use lib.ListN.{get_or}
 use lib.Dec.{eqb}
 use Rattle.finite.specs.Tests.{pick, tabulate}
 use Rattle.records.specs.Bytes.{term_bytes}
-use Rattle.design.specs.Design.{Stage, Design, stage_of}
-use Rattle.records.specs.Records.{join, a_record}
-use Rattle.design.specs.Encode.{head_body}
+use Rattle.records.specs.Design.{Stage, Design, stage_of}
+use Rattle.std.specs.List.{concat}
+use Rattle.records.specs.Records.{a_record}
+use Rattle.records.specs.Encode.{head_body}
 use Rattle.design.specs.Reading.{kind_due, last_of}
 use Rattle.design.specs.Limits.{Head}
 
@@ -31,4 +32,4 @@ unfoldable pub record_of : Design → ℕ → List ℕ
 record_of d i = a_record (kind_due (head_for d) i) (body_of d i)
 
 unfoldable pub flat : Design → List ℕ
-flat d = join (tabulate (last_of (head_for d) + 1) (record_of d))
+flat d = concat (tabulate (last_of (head_for d) + 1) (record_of d))

@@ -9,24 +9,25 @@ use lib.ListN.{length, get_or, drop, length-drop}
 use lib.Seq.{get_or-take, get_or-drop, length-take-le}
 use lib.Dec.{eqb, lit<}
 use Rattle.finite.specs.Tests.{all, tabulate}
-use Rattle.finite.proofs.Testing.{and_left, and_right, all_at, tabulate_length, tabulate_at, pick_passed}
+use Rattle.std.proofs.lemmas.Bool.{and_parts}
+use Rattle.finite.proofs.Testing.{all_at, tabulate_length, tabulate_at, pick_passed}
 use Rattle.anf.specs.Terms.{before}
-use Rattle.design.specs.Limits.{greatest_terms}
+use Rattle.design.specs.Limits.{greatest_terms, Head}
 use Rattle.records.specs.Bytes.{u16_at, u32_at}
-use Rattle.design.specs.Design.{TableFits, ListFits, StageFits, WellFormed}
+use Rattle.anf.specs.Tables.{TableFits}
+use Rattle.design.specs.WellFormed.{ListFits, StageFits, WellFormed}
 use Rattle.design.specs.Reading.{number_of, kind_due, size_due, length_due, entry_fits, previous, term_fits, fault_at, means, reading, place, head_of, meaning, stage_at, table_at, list_at}
-use Rattle.design.specs.Limits.{Head}
 use Rattle.design.proofs.Records.{entry_below, body_2, body_3, previous_more, fault_framed, body_none}
 use Rattle.design.proofs.Found.{fine, limits_file, stage_is, staged, number_low}
 use Rattle.design.proofs.Written.{list_size, last_two}
 
 term_rises : (f : List ℕ) (start bound j : ℕ) → term_fits f start bound j ≡ true → (eqb j 0 || before (previous f start j) (u32_at f (start + 4 * j))) ≡ true
 unfolding term_fits
-term_rises f start bound j e = and_left (eqb j 0 || before (previous f start j) (u32_at f (start + 4 * j))) _ e
+term_rises f start bound j e = (and_parts (eqb j 0 || before (previous f start j) (u32_at f (start + 4 * j))) _ e).0
 
 term_below : (f : List ℕ) (start bound j : ℕ) → term_fits f start bound j ≡ true → u32_at f (start + 4 * j) < bound
 unfolding term_fits
-term_below f start bound j e = ltb-true _ _ (and_right (eqb j 0 || before (previous f start j) (u32_at f (start + 4 * j))) _ e)
+term_below f start bound j e = ltb-true _ _ (and_parts (eqb j 0 || before (previous f start j) (u32_at f (start + 4 * j))) _ e).1
 
 module _ (f : List ℕ) (h : Head) (i at : ℕ) (e : fault_at f h i at ≡ 0) where
   table_fits : kind_due h i ≡ 2 → TableFits h.m (table_at f at (2 ^ h.m))

@@ -14,9 +14,9 @@ use lib.Arith.{digits_lt, digits_mod, digits_div}
 use lib.Dec.{ltb, eqb}
 use Rattle.finite.specs.Tests.{pick}
 use Rattle.finite.proofs.Testing.{tabulate_at}
-use Rattle.design.specs.Limits.{greatest_width, greatest_shares, greatest_share_bits, greatest_terms}
+use Rattle.design.specs.Limits.{greatest_terms}
 use Rattle.records.specs.Bytes.{u16_at}
-use Rattle.design.specs.Design.{Design, no_stage, stage_of, list_of}
+use Rattle.records.specs.Design.{Design, no_stage, stage_of, list_of}
 use Rattle.design.specs.Inside.Described.{Limits, Describes}
 use Rattle.design.specs.Reading.{last_of, number_of, kind_due, size_due, length_due, fault_at, Reading, refused, means, reading, walk, place, head_of, meaning, stage_at, table_at, list_at}
 use Rattle.design.specs.Limits.{Head}
@@ -152,15 +152,6 @@ module _ (f : List ℕ) (l : Layout) (d : Describes f l) where
 
   pub limited : Bounds l.head.m l.head.s l.head.k
   limited = bounds _ _ _ limits
-
-  pub width_high : l.head.m ≤ greatest_width
-  width_high = limited.m_high
-
-  pub shares_high : l.head.s ≤ greatest_shares
-  shares_high = limited.s_high
-
-  pub bits_high : l.head.m * l.head.s ≤ greatest_share_bits
-  bits_high = limited.bits
 
   -- the box
   pub box_part : (from : ℕ) → from ≡ get_or l.starts 1 0 → Part f from (2 ^ l.head.m) (meaning f).box

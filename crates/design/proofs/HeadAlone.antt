@@ -17,7 +17,7 @@ use Rattle.finite.proofs.Testing.{pick_false}
 use Rattle.finite.proofs.Faults.{fault_either, fault_none}
 use Rattle.records.specs.Bytes.{byte, u16_at}
 use Rattle.design.specs.Limits.{broken}
-use Rattle.design.specs.Design.{Design}
+use Rattle.records.specs.Design.{Design}
 use Rattle.design.specs.Reading.{length_due, fault_at, head_of, head_fault, last_of, refused, means, meaning, reading, walk}
 use Rattle.design.specs.Inside.Framing.{frame_fault}
 use Rattle.design.specs.Limits.{Head}

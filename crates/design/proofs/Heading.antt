@@ -5,9 +5,8 @@ use mathlib.Core.Path.{◌≡◌, refl, ◌∙◌, sym}
 use mathlib.Core.Bool.{false}
 use native.Mathlib.Omega.{arith}
 use lib.Arith.{digits_lt}
-use lib.Pow.{pow_mono}
 use borrow.Author.Tests.{lt-ltb, le-ltb, eq-eqb, ne_eqb}
-use mir.Syntax.{w32, w64}
+use mir.Syntax.{w64}
 use mir.Val.{Fits}
 use Rattle.design.specs.Limits.{greatest_width, least_shares, greatest_shares, greatest_share_bits, greatest_stages, greatest_terms, greatest_records, broken, checked}
 use Rattle.records.specs.Kinds.{code}
@@ -89,23 +88,11 @@ module _ (m s k : ℕ) (l : broken m s k ≡ false) where
   pub width_small : (n : ℕ) → 32 ≤ n → m < n
   width_small n h = omega (arith, width_high)
 
-  pub width_fits : Fits w32 m
-  width_fits = record { fits = omega (arith, width_high) }
-
-  pub shares_high : s ≤ greatest_shares
-  shares_high = (bounds m s k l).s_high
-
   pub bits_low : m * s ≤ greatest_share_bits
   bits_low = (bounds m s k l).bits
 
   pub bits_some : 1 ≤ m * s
   bits_some = omega (arith, (bounds m s k l).bits_low)
-
-  pub bits_small : m * s < 64
-  bits_small = omega (arith, (bounds m s k l).bits)
-
-  pub points_fit : (p : ℕ) → p ≡ 2 ^ (m * s) → Fits w32 p
-  points_fit p e = record { fits = omega (arith, pow_mono (bounds m s k l).bits) }
 
   -- record l of stage t
   module _ (t r : ℕ) (a : t < k) (b : r ≤ m * s) where

@@ -7,7 +7,7 @@ use native.Mathlib.Nat.{mul-le-mul}
 use borrow.Author.Tests.{ltb-false, le-ltb}
 use mathlib.Core.List.{[], ◌∷◌}
 use Rattle.finite.specs.Tests.{pick}
-use Rattle.finite.proofs.Testing.{or_false}
+use Rattle.std.proofs.lemmas.Bool.{or_parts}
 use Rattle.design.specs.Limits.{greatest_width, least_shares, greatest_shares, greatest_share_bits, greatest_stages, Head, broken, checked, head_answer}
 use Rattle.std.specs.Prelude.{Result, Ok, Err}
 use Rattle.reasons.specs.Numbers.{reason_of}
@@ -35,12 +35,12 @@ records {k} {b} p q = mul-le-mul {n₁ = k} {m₁ = 1 + b} {n₂ = greatest_stag
 pub bounds : (m s k : ℕ) → broken m s k ≡ false → Bounds m s k
 unfolding broken
 bounds m s k e =
-    let a = or_false _ _ e in
-    let b = or_false _ _ a.0 in
-    let c = or_false _ _ b.0 in
-    let d = or_false _ _ c.0 in
-    let f = or_false _ _ d.0 in
-    let g = or_false _ _ f.0 in
+    let a = or_parts _ _ e in
+    let b = or_parts _ _ a.0 in
+    let c = or_parts _ _ b.0 in
+    let d = or_parts _ _ c.0 in
+    let f = or_parts _ _ d.0 in
+    let g = or_parts _ _ f.0 in
     let m_low = ltb-false _ _ g.0 in
     let s_low = ltb-false _ _ f.1 in
     record {

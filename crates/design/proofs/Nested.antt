@@ -9,28 +9,30 @@ use borrow.Author.Tests.{ne_eqb}
 use Rattle.finite.specs.Tests.{tabulate}
 use Rattle.finite.proofs.Testing.{tabulate_congr, map_is}
 use Rattle.records.specs.Bytes.{term_bytes}
-use Rattle.design.specs.Design.{Design, no_stage, stage_of, list_of, WellFormed}
-use Rattle.records.specs.Records.{join, a_record}
-use Rattle.design.specs.Encode.{stage_bytes, encode}
+use Rattle.records.specs.Design.{Design, no_stage, stage_of, list_of}
+use Rattle.design.specs.WellFormed.{WellFormed}
+use Rattle.std.specs.List.{concat}
+use Rattle.records.specs.Records.{a_record}
+use Rattle.records.specs.Encode.{stage_bytes, encode}
 use Rattle.design.specs.Reading.{last_of, number_of, kind_due}
 use Rattle.design.proofs.Flat.{head_for, stage_body, body_of, record_of, flat}
 use Rattle.design.proofs.Found.{staged}
-use Rattle.records.proofs.Joined.{join_snoc, join_add}
+use Rattle.records.proofs.Concat.{concat_snoc, concat_add}
 use Rattle.design.proofs.Written.{body_stage, body_end, kind_end}
 
-join_none : (g : ℕ → List ℕ) → join (tabulate 0 g) ≡ []
-unfolding join tabulate
-join_none g = refl
+concat_none : (g : ℕ → List ℕ) → concat (tabulate 0 g) ≡ []
+unfolding tabulate
+concat_none g = refl
 
-join_first : (n : ℕ) (g : ℕ → List ℕ) → join (tabulate (suc n) g) ≡ g 0 ++ join (tabulate n (λ i. g (suc i)))
-unfolding join tabulate
-join_first n g = refl
+concat_first : (n : ℕ) (g : ℕ → List ℕ) → concat (tabulate (suc n) g) ≡ g 0 ++ concat (tabulate n (λ i. g (suc i)))
+unfolding tabulate
+concat_first n g = refl
 
 -- k times c lists
-join_mul : (k c : ℕ) (g : ℕ → List ℕ) → join (tabulate (k * c) g) ≡ join (tabulate k (λ t. join (tabulate c (λ l. g (t * c + l)))))
-join_mul zero c g = rw (zero-mul, join_none, join_none) refl
-join_mul (suc k) c g =
-    rw suc-mul (join_add (k * c) c g ∙ ap (λ (x : List ℕ). x ++ join (tabulate c (λ l. g (k * c + l)))) (join_mul k c g) ∙ sym (join_snoc (λ t. join (tabulate c (λ l. g (t * c + l)))) k))
+concat_mul : (k c : ℕ) (g : ℕ → List ℕ) → concat (tabulate (k * c) g) ≡ concat (tabulate k (λ t. concat (tabulate c (λ l. g (t * c + l)))))
+concat_mul zero c g = rw (zero-mul, concat_none, concat_none) refl
+concat_mul (suc k) c g =
+    rw suc-mul (concat_add (k * c) c g ∙ ap (λ (x : List ℕ). x ++ concat (tabulate c (λ l. g (k * c + l)))) (concat_mul k c g) ∙ sym (concat_snoc (λ t. concat (tabulate c (λ l. g (t * c + l)))) k))
 
 module _ (d : Design) (w : WellFormed d) where
   record_table : (t : ℕ) → t < d.k → record_of d (number_of (head_for d) t 0) ≡ a_record 2 (stage_of d t).table
@@ -41,30 +43,30 @@ module _ (d : Design) (w : WellFormed d) where
   unfolding record_of stage_body
   record_list t l a b = rw (staged (head_for d) t (suc l) a b, body_stage d t (suc l) a b, ne_eqb (suc l) 0 (λ z. omega arith)) refl
 
-  stage_encode : (t : ℕ) → t < d.k → join (tabulate (1 + d.m * d.s) (λ l. record_of d (number_of (head_for d) t l))) ≡ stage_bytes (stage_of d t)
+  stage_encode : (t : ℕ) → t < d.k → concat (tabulate (1 + d.m * d.s) (λ l. record_of d (number_of (head_for d) t l))) ≡ stage_bytes (stage_of d t)
   unfolding stage_bytes
   stage_encode t a =
       let e : 1 + d.m * d.s ≡ suc (d.m * d.s) = omega arith in
-      rw e (join_first (d.m * d.s) _ ∙ rw (record_table t a, map_is (λ ts. a_record 3 (term_bytes ts)) (stage_of d t).lists (d.m * d.s) [] (w.stage t a).count)
-      (ap (λ (x : List (List ℕ)). a_record 2 (stage_of d t).table ++ join x) (tabulate_congr (d.m * d.s) _ _ (λ l b. record_list t l a b))))
+      rw e (concat_first (d.m * d.s) _ ∙ rw (record_table t a, map_is (λ ts. a_record 3 (term_bytes ts)) (stage_of d t).lists (d.m * d.s) [] (w.stage t a).count)
+      (ap (λ (x : List (List ℕ)). a_record 2 (stage_of d t).table ++ concat x) (tabulate_congr (d.m * d.s) _ _ (λ l b. record_list t l a b))))
 
-  stages_encode : join (tabulate (d.k * (1 + d.m * d.s)) (λ i. record_of d (2 + i))) ≡ join (map stage_bytes d.stages)
+  stages_encode : concat (tabulate (d.k * (1 + d.m * d.s)) (λ i. record_of d (2 + i))) ≡ concat (map stage_bytes d.stages)
   unfolding number_of
   stages_encode =
-      join_mul d.k (1 + d.m * d.s) (λ i. record_of d (2 + i)) ∙
+      concat_mul d.k (1 + d.m * d.s) (λ i. record_of d (2 + i)) ∙
       rw (map_is stage_bytes d.stages d.k no_stage w.count)
-      (ap join (tabulate_congr d.k _ _ (λ t a.
-      ap join (tabulate_congr (1 + d.m * d.s) _ (λ l. record_of d (number_of (head_for d) t l)) (λ l b. ap (record_of d) (omega arith))) ∙ stage_encode t a)))
+      (ap concat (tabulate_congr d.k _ _ (λ t a.
+      ap concat (tabulate_congr (1 + d.m * d.s) _ (λ l. record_of d (number_of (head_for d) t l)) (λ l b. ap (record_of d) (omega arith))) ∙ stage_encode t a)))
 
   end_encode : record_of d (last_of (head_for d)) ≡ a_record 4 []
   unfolding record_of
   end_encode = rw (kind_end (head_for d), body_end d) refl
 
-  start_encode : join (tabulate 2 (record_of d)) ≡ a_record 1 (d.m ∷ d.s ∷ d.k ∷ []) ++ a_record 2 d.box
-  unfolding join tabulate record_of kind_due body_of a_record
+  start_encode : concat (tabulate 2 (record_of d)) ≡ a_record 1 (d.m ∷ d.s ∷ d.k ∷ []) ++ a_record 2 d.box
+  unfolding tabulate record_of kind_due body_of a_record
   start_encode = simp append-nil
 
   pub flat_encode : flat d ≡ encode d
   unfolding flat encode last_of
   flat_encode =
-      rw add-one (join_snoc (record_of d) (2 + d.k * (1 + d.m * d.s)) ∙ rw (join_add 2 (d.k * (1 + d.m * d.s)) (record_of d), end_encode, start_encode, stages_encode) (simp append_assoc))
+      rw add-one (concat_snoc (record_of d) (2 + d.k * (1 + d.m * d.s)) ∙ rw (concat_add 2 (d.k * (1 + d.m * d.s)) (record_of d), end_encode, start_encode, stages_encode) (simp append_assoc))

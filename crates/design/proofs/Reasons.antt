@@ -13,19 +13,19 @@ use native.Mathlib.Nat.{not-suc-le-zero}
 use native.Mathlib.Numerals.{add-one}
 use Rattle.finite.specs.Tests.{pick, all}
 use Rattle.finite.specs.Faults.{first_fault}
-use Rattle.finite.proofs.Testing.{all_at, all_not, clash, true_or_false, below, and_intro, or_right, and_right, and_left, pick_passed, pick_missed}
+use Rattle.finite.proofs.Testing.{all_at, all_not, clash, below, pick_passed, pick_missed}
+use Rattle.std.proofs.lemmas.Bool.{cases_Bool, and_from, or_right, and_parts}
 use Rattle.finite.proofs.Faults.{fault_cases}
 use Rattle.anf.specs.Terms.{before}
-use Rattle.design.specs.Limits.{greatest_terms, broken}
+use Rattle.design.specs.Limits.{greatest_terms, broken, Head}
 use Rattle.records.specs.Bytes.{u16_at}
-use Rattle.design.specs.Reading.{Reading, refused, means, reason_of, place_of}
+use Rattle.design.specs.Reading.{refused, means}
 use Rattle.design.specs.Reading.{last_of, head_of, kind_due, size_due, length_due, entry_fits, term_fits, previous, fault_at, meaning, place, walk, reading, body_faults}
 use Rattle.design.specs.Refused.{WithinLimits, LengthFits, TermFits, RecordStands, RecordFits, FitBefore, Reached, term_at, kind_at}
 use Rattle.design.specs.Refused.{RefusedFor, head_cut, kind_wrong, length_wrong, body_cut, limit_broken, entry_high, term_wrong, bytes_follow}
-use Rattle.design.specs.Limits.{Head}
 use Rattle.design.proofs.Limits.{bounds, unbroken}
 use Rattle.design.proofs.Records.{body_fault, Framed, body_1, body_2, body_3, body_none, fault_framed, previous_more, entry_below, entry_not, body_4}
-use Rattle.design.proofs.Written.{list_size, read_means}
+use Rattle.design.proofs.Written.{list_size}
 use Rattle.design.proofs.Walking.{place_next}
 
 -- ---- the tests, as propositions
@@ -62,7 +62,7 @@ length_not : (h : Head) (i kind n : ℕ) → Kind i kind → length_due kind (si
 unfolding length_due size_due
 length_not h i kind n (is_head z) e w = clash (eq-eqb n 3 (w.of_head refl)) e
 length_not h i kind n is_table e w = clash (eq-eqb n (2 ^ h.m) (w.of_table refl)) e
-length_not h i kind n is_list e w = let q = w.of_list refl in clash (and_intro (eq-eqb (n % 4) 0 q.0) (le-leb n (4 * greatest_terms) q.1)) e
+length_not h i kind n is_list e w = let q = w.of_list refl in clash (and_from _ _ (eq-eqb (n % 4) 0 q.0) (le-leb n (4 * greatest_terms) q.1)) e
 length_not h i kind n is_end e w = clash (eq-eqb n 0 (w.of_end refl)) e
 
 -- the limits
@@ -92,10 +92,10 @@ module _ (f : List ℕ) (i : ℕ) where
   term_fits_lem : (j : ℕ) → fits j ≡ true → TermFits f i j
   unfolding term_fits
   term_fits_lem j e = record {
-    below = ltb-true _ _ (and_right (eqb j 0 || before (previous f (place f i + 4) j) (term_at f i j)) _ e);
+    below = ltb-true _ _ (and_parts (eqb j 0 || before (previous f (place f i + 4) j) (term_at f i j)) _ e).1;
     rises = λ l q.
         let a : before (previous f (place f i + 4) j) (term_at f i j) ≡ true =
-        or_second (eqb j 0) _ (ne_eqb j 0 (λ z. omega arith)) (and_left (eqb j 0 || before (previous f (place f i + 4) j) (term_at f i j)) _ e) in
+        or_second (eqb j 0) _ (ne_eqb j 0 (λ z. omega arith)) (and_parts (eqb j 0 || before (previous f (place f i + 4) j) (term_at f i j)) _ e).0 in
         ap (λ (x : ℕ). before x (term_at f i j)) (sym (ap (previous f (place f i + 4)) q ∙ previous_more f (place f i + 4) 0 l)) ∙ a;
   }
     where
@@ -105,7 +105,7 @@ module _ (f : List ℕ) (i : ℕ) where
 
   term_not : (j : ℕ) → fits j ≡ false → TermFits f i j → ⊥
   unfolding term_fits previous
-  term_not j e w = clash (and_intro (rise j w.rises) (lt-ltb _ _ w.below)) e
+  term_not j e w = clash (and_from _ _ (rise j w.rises) (lt-ltb _ _ w.below)) e
     where
       rise : (k : ℕ) → ((l : ℕ) → k ≡ l + 1 → before (term_at f i l) (term_at f i k) ≡ true) → (eqb k 0 || before (previous f (place f i + 4) k) (term_at f i k)) ≡ true
       rise zero r = refl
@@ -156,7 +156,7 @@ module _ (f : List ℕ) (i : ℕ) where
             let g : RefusedFor f 4 (place f 0) = limit_broken (subst (RecordStands f) z w) (beyond (head_of f) b) in
             subst (λ (x : ℕ). RefusedFor f x start) c (subst (λ (x : ℕ). RefusedFor f 4 (place f x)) (sym z) g))
             (λ b. absurd (n (sym e ∙ body_1 f (head_of f) kind (start + 4) (u16_at f start) q ∙ ap (λ (x : Bool). pick x 4 0) b)))
-            (true_or_false (broken (head_of f).m (head_of f).s (head_of f).k))
+            (cases_Bool (broken (head_of f).m (head_of f).s (head_of f).k))
         go k q is_table =
             ⊎_elim
             (λ b. absurd (n (sym e ∙ body_2 f (head_of f) kind (start + 4) (u16_at f start) q ∙ ap (λ (x : Bool). pick x 0 5) b)))
@@ -164,14 +164,14 @@ module _ (f : List ℕ) (i : ℕ) where
             let x = all_not _ _ b in
             rw (← c) (entry_high i x.0 reached w q (omega (arith, w.size.of_table q, x.1))
             (λ y l. entry_below f (start + 4) (2 ^ (head_of f).m) y (all_at _ _ x.2 y l)) (entry_not f (start + 4) (2 ^ (head_of f).m) x.0 x.3)))
-            (true_or_false (all (u16_at f start) (entry_fits f (start + 4) (2 ^ (head_of f).m))))
+            (cases_Bool (all (u16_at f start) (entry_fits f (start + 4) (2 ^ (head_of f).m))))
         go k q is_list =
             ⊎_elim
             (λ b. absurd (n (sym e ∙ body_3 f (head_of f) kind (start + 4) (u16_at f start) q ∙ ap (λ (x : Bool). pick x 0 6) b)))
             (λ b. let c : 6 ≡ r = sym (ap (λ (x : Bool). pick x 0 6) b) ∙ sym (body_3 f (head_of f) kind (start + 4) (u16_at f start) q) ∙ e in
             let x = all_not _ _ b in
             rw (← c) (term_wrong i x.0 reached w q x.1 (λ l u. term_fits_lem f i l (all_at _ _ x.2 l u)) (term_not f i x.0 x.3)))
-            (true_or_false (all (u16_at f start / 4) (fits f i)))
+            (cases_Bool (all (u16_at f start / 4) (fits f i)))
         go k q is_end =
             absurd (n (sym e ∙ body_4 f (head_of f) kind (start + 4) (u16_at f start) (λ z. omega (arith, q, z)) (λ z. omega (arith, q, z)) (λ z. omega (arith, q, z))))
 
@@ -271,18 +271,3 @@ reason_range f r p e = go r p (refused_for f r p e)
     go r p (entry_high i x b w k l y h) = (omega arith, omega arith)
     go r p (term_wrong i j b w k l y h) = (omega arith, omega arith)
     go r p (bytes_follow b l) = (omega arith, omega arith)
-
--- so the number alone tells whether the file reads
-pub reason_none : (f : List ℕ) → reason_of (reading f) ≡ 0 → reading f ≡ means (meaning f)
-reason_none f z = go (reading f) refl z
-  where
-    go : (r : Reading) → reading f ≡ r → reason_of r ≡ 0 → r ≡ means (meaning f)
-    go (refused r p) e z = absurd (omega (arith, reason_range f r p e))
-    go (means d) e z = ap means (read_means f d e)
-
-pub reason_some : (f : List ℕ) → reason_of (reading f) ≢ 0 → reading f ≡ refused (reason_of (reading f)) (place_of (reading f))
-reason_some f n = go (reading f) n
-  where
-    go : (r : Reading) → reason_of r ≢ 0 → r ≡ refused (reason_of r) (place_of r)
-    go (refused r p) n = refl
-    go (means d) n = absurd (n refl)

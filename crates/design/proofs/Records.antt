@@ -5,7 +5,7 @@ use mathlib.Core.List.{List}
 use mathlib.Core.Bool.{Bool, true, false, ◌||◌}
 use native.Mathlib.Omega.{arith}
 use native.Mathlib.Numerals.{add-one}
-use borrow.Author.Tests.{ltb-false, eqb-true, lt-ltb, le-ltb, ne_eqb, not-false, ltb-true}
+use borrow.Author.Tests.{ltb-false, eqb-true, lt-ltb, ne_eqb, not-false, ltb-true}
 use lib.ListN.{length}
 use lib.Dec.{eqb, lit<}
 use mathlib.Core.Logic.{⊎_elim, ◌⊎◌, inl, inr}
@@ -22,10 +22,6 @@ use Rattle.design.specs.Limits.{broken}
 use Rattle.design.proofs.Limits.{head_number}
 
 module _ (f : List ℕ) (start bound x : ℕ) where
-  pub entry_high : bound ≤ byte f (start + x) → entry_fits f start bound x ≡ false
-  unfolding entry_fits
-  entry_high h = le-ltb _ _ h
-
   pub entry_fits_lem : byte f (start + x) < bound → entry_fits f start bound x ≡ true
   unfolding entry_fits
   entry_fits_lem h = lt-ltb _ _ h

@@ -11,14 +11,14 @@ use Rattle.finite.proofs.Testing.{tabulate_congr}
 use Rattle.records.specs.Bytes.{Bytes}
 use Rattle.records.specs.Inside.Terms.{terms}
 use Rattle.design.specs.Limits.{greatest_records, greatest_share_bits}
-use Rattle.design.specs.Design.{stage_of}
+use Rattle.records.specs.Design.{stage_of}
 use Rattle.design.specs.Reading.{number_of, meaning}
 use Rattle.design.specs.Heads.{numbers, laid}
 use Rattle.design.specs.declared.heads.Head as heads
 use Rattle.design.specs.Inside.Described.{Describes}
 use Rattle.design.specs.Inside.StageLists.{body_at, Inside, AllInside, lists_of, run_length, Stands, lists_in}
 use Rattle.design.proofs.Answered.{described}
-use Rattle.design.proofs.StageLists.{lists_of_length, lists_of_at, Stand, stand}
+use Rattle.design.proofs.StageLists.{lists_length, lists_of_length, lists_of_at, Stand, stand}
 
 -- ---- a run of n lists, the starts from number `first` on
 
@@ -92,9 +92,6 @@ module _ (f starts : List ℕ) (s : Stands f starts) where
     pub body_ordered : get_or starts i 0 ≤ get_or starts (i + 1) 0 - 4
     body_ordered = omega (arith, here)
 
-    pub body_within : get_or starts (i + 1) 0 - 4 ≤ length f
-    body_within = omega (arith, here)
-
     pub list_held : (r : List ℕ) → r ≡ terms (body_at f (get_or starts i 0) (get_or starts (i + 1) 0)) → r ≡ get_or (lists_in f starts) i []
     list_held r e =
         let z : 0 + i ≡ i = omega arith in
@@ -163,3 +160,6 @@ module _ (f : List ℕ) (bytes : Bytes f) (h : heads.Head) (starts : List ℕ) (
 
     pub stage_lists : lists_in f (mid_of first (first + n + 1 - first) starts) ≡ (stage_of (meaning f) t).lists
     stage_lists = run_lists f starts _ first n within run_is ∙ ap (lists_of f starts first) en ∙ whole.all
+
+    pub stage_lists_many : length (lists_in f (mid_of first (first + n + 1 - first) starts)) ≡ h.m * h.s
+    stage_lists_many = ap (λ (x : List (List ℕ)). length x) stage_lists ∙ lists_length f (laid h starts) d t u

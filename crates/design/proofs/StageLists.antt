@@ -1,6 +1,6 @@
 -- The lists of a stage as they stand in a file that reads, by where its layout has the bodies start.
 use Prim.Native.Nat.{ℕ, ◌+◌, ◌-◌, ◌*◌, ◌≤◌, ◌<◌}
-use mathlib.Core.Path.{◌≡◌, refl, sym, ap, ap₂, ◌∙◌, subst}
+use mathlib.Core.Path.{◌≡◌, refl, sym, ap, ◌∙◌}
 use mathlib.Core.List.{List, []}
 use native.Mathlib.Omega.{arith}
 use lib.Arith.{digits_lt}
@@ -8,7 +8,7 @@ use lib.ListN.{length, get_or, take, drop, length-take, length-drop}
 use lib.Seq.{ext_get_or, get_or-take, get_or-drop, take_all, length-take-le}
 use Rattle.finite.proofs.Testing.{tabulate_length, tabulate_at}
 use Rattle.records.specs.Bytes.{Bytes, u16_at, term_bytes}
-use Rattle.design.specs.Design.{stage_of, list_of}
+use Rattle.records.specs.Design.{stage_of, list_of}
 use Rattle.design.specs.Reading.{head_of, last_of, number_of, place, meaning}
 use Rattle.design.specs.Inside.Described.{Describes}
 use Rattle.records.specs.Inside.Terms.{terms}
@@ -31,19 +31,12 @@ module _ (f starts : List ℕ) (first n : ℕ) where
   unfolding lists_of
   lists_of_at i h = tabulate_at n _ i [] h
 
-pub stages_length : (f : List ℕ) (y : Layout) → Describes f y → length (meaning f).stages ≡ y.head.k
-stages_length f y d = let r = described d in r.formed.count ∙ sym r.k
-
 pub lists_length : (f : List ℕ) (y : Layout) → Describes f y → (t : ℕ) → t < y.head.k → length (stage_of (meaning f) t).lists ≡ y.head.m * y.head.s
-lists_length f y d t u =
-    let r = described d in
-    (r.formed.stage t (subst (λ (k : ℕ). t < k) r.k u)).count ∙ sym (ap₂ ◌*◌ r.m r.s)
+lists_length f y d t u = ((described d).formed.stage t u).count
 
 -- a list has no more terms than a list may have
 list_small : (f : List ℕ) (y : Layout) → Describes f y → (t l : ℕ) → t < y.head.k → l < y.head.m * y.head.s → length (list_of (meaning f) t l) ≤ greatest_terms
-list_small f y d t l u h =
-    let r = described d in
-    ((r.formed.stage t (subst (λ (k : ℕ). t < k) r.k u)).list l (subst (λ (k : ℕ). l < k) (ap₂ ◌*◌ r.m r.s) h)).size
+list_small f y d t l u h = (((described d).formed.stage t u).list l h).size
 
 module _ (f : List ℕ) (b : Bytes f) (y : Layout) (d : Describes f y) (t : ℕ) (u : t < y.head.k) where
   -- list l: it lies in the file, and its terms are those that the file means

@@ -6,16 +6,17 @@ use mathlib.Core.Path.{◌≡◌, sym, ap, ◌∙◌}
 use mathlib.Core.List.{List, ◌++◌, map, append_assoc}
 use native.Mathlib.Omega.{arith}
 use native.Mathlib.Nat.{add-sub_cancel_left}
-use lib.ListN.{length, get_or, take, drop}
+use lib.ListN.{length, get_or, take, drop, length-drop}
 use lib.Pow.{pow_mono}
-use lib.Seq.{take_at, drop_at}
+use lib.Seq.{take_at, drop_at, length-take-le}
 use mir.Syntax.{w64}
 use mir.Val.{Fits}
 use Rattle.records.specs.Bytes.{Bytes, u16_at, term_bytes}
-use Rattle.records.specs.Records.{join, a_record, end_record}
-use Rattle.records.proofs.Overwriting.{two_records_length}
-use Rattle.design.specs.Design.{Design, stage_of, list_of}
-use Rattle.design.specs.Encode.{head_body, stage_bytes, encode}
+use Rattle.std.specs.List.{concat}
+use Rattle.records.specs.Records.{a_record, end_record}
+use Rattle.records.proofs.ListRecords.{two_records_length}
+use Rattle.records.specs.Design.{Design, stage_of, list_of}
+use Rattle.records.specs.Encode.{head_body, stage_bytes, encode}
 use Rattle.design.specs.Inside.Described.{Describes}
 use Rattle.design.specs.Reading.{number_of, meaning}
 use Rattle.design.specs.Layout.{Layout}
@@ -30,6 +31,10 @@ use Rattle.design.proofs.Theorems.{read_encodes}
 -- n bytes from `from` on, as a slice that ends at from + n
 slice_is : (f b : List ℕ) (from n k : ℕ) → Part f from k b → n ≡ k → take (from + n - from) (drop from f) ≡ b
 slice_is f b from n k p e = ap (λ (x : ℕ). take x (drop from f)) (add-sub_cancel_left from n ∙ e) ∙ p.is
+
+-- it has as many bytes, where they are there
+pub slice_length : (f : List ℕ) (from n p : ℕ) → n ≡ p → from + n ≤ length f → length (take (from + n - from) (drop from f)) ≡ p
+slice_length f from n p e h = length-take-le _ (drop from f) (rw length-drop (omega arith)) ∙ add-sub_cancel_left from n ∙ e
 
 module _ (f : List ℕ) (l : Layout) (d : Describes f l) where
   pub list_fits : (x : ℕ) → x < l.head.m * l.head.s → Fits w64 (x + 1)
@@ -95,7 +100,7 @@ module _ (d : Design) where
   front = a_record 1 (head_body d) ++ a_record 2 d.box
 
   abbrev middle : List ℕ
-  middle = join (map stage_bytes d.stages)
+  middle = concat (map stage_bytes d.stages)
 
   in_three : encode d ≡ front ++ (middle ++ end_record)
   unfolding encode
@@ -116,7 +121,7 @@ module _ (f : List ℕ) (l : Layout) (d : Describes f l) where
     entries_small = omega (arith, pow_mono (limited f l d).m_high)
 
     box_size : length (meaning f).box ≡ p
-    box_size = let r = described d in r.formed.box.size ∙ sym (ep ∙ ap (λ (m : ℕ). 2 ^ m) r.m)
+    box_size = (described d).formed.box.size ∙ sym ep
 
     module _ (b : ℕ) (eb : b ≡ 4 + p) where
       pub front_fits : (a : ℕ) → a ≡ 4 + 3 → Fits w64 (a + b)
@@ -126,7 +131,7 @@ module _ (f : List ℕ) (l : Layout) (d : Describes f l) where
         is_encoded : f ≡ encode (meaning f)
         is_encoded = read_encodes f (meaning f) bytes d.read
 
-        its_length : length f ≡ 7 + (4 + p) + length (join (map stage_bytes (meaning f).stages)) + 4
+        its_length : length f ≡ 7 + (4 + p) + length (concat (map stage_bytes (meaning f).stages)) + 4
         its_length = omega (arith, ap length is_encoded, parts_length (meaning f), box_size)
 
         pub end_within : e ≤ length f
@@ -136,7 +141,7 @@ module _ (f : List ℕ) (l : Layout) (d : Describes f l) where
           pub front_within : a + b ≤ length f - e
           front_within = omega (arith, its_length)
 
-          pub stages_are : take (length f - e - (a + b)) (drop (a + b) f) ≡ join (map stage_bytes (meaning f).stages)
+          pub stages_are : take (length f - e - (a + b)) (drop (a + b) f) ≡ concat (map stage_bytes (meaning f).stages)
           stages_are =
               ap (λ (x : List ℕ). take (length f - e - (a + b)) (drop (a + b) x)) is_encoded
               ∙ middle_is (meaning f) (a + b) (length f - e - (a + b)) (omega (arith, box_size)) (omega (arith, its_length, ap length is_encoded))

@@ -7,8 +7,9 @@ use mathlib.Core.Logic.{◌↔◌}
 use lib.Seq.{ext_get_or}
 use Rattle.anf.proofs.Terms.{unique_terms}
 use Rattle.records.specs.Bytes.{Bytes}
-use Rattle.design.specs.Design.{Design, WellFormed, SameMeaning, no_stage, stage_of}
-use Rattle.design.specs.Encode.{encode}
+use Rattle.records.specs.Design.{Design, no_stage, stage_of}
+use Rattle.design.specs.WellFormed.{WellFormed, SameMeaning}
+use Rattle.records.specs.Encode.{encode}
 use Rattle.design.specs.Reading.{means, reading}
 use Rattle.design.proofs.Written.{read_means, read_flat}
 use Rattle.design.proofs.Encoded.{flat_reads, stage_eq, design_eq}

@@ -11,32 +11,32 @@ use lib.ListN.{length, get_or, take, drop, length-drop}
 use lib.Seq.{take-add, take_all, drop-cons, length-take-le}
 use lib.Dec.{eqb}
 use Rattle.finite.specs.Tests.{tabulate}
-use Rattle.finite.proofs.Testing.{tabulate_congr, and_left, and_right}
-use Rattle.design.specs.Limits.{greatest_terms}
+use Rattle.finite.proofs.Testing.{tabulate_congr}
+use Rattle.std.proofs.lemmas.Bool.{and_parts}
+use Rattle.design.specs.Limits.{greatest_terms, Head}
 use Rattle.records.specs.Bytes.{byte, u16_at, u32_at, term_bytes, Bytes}
-use Rattle.design.specs.Design.{Design, stage_of, list_of}
-use Rattle.records.specs.Records.{join, a_record}
+use Rattle.records.specs.Design.{Design, stage_of, list_of}
+use Rattle.std.specs.List.{concat}
+use Rattle.records.specs.Records.{a_record}
 use Rattle.design.specs.Inside.Described.{Describes}
 use Rattle.design.specs.Reading.{last_of, number_of, kind_due, size_due, length_due, means, reading, place, head_of, meaning, stage_at, table_at, list_at}
-use Rattle.design.specs.Limits.{Head}
 use Rattle.design.specs.Layout.{Layout}
 use Rattle.design.proofs.Flat.{head_for, stage_body, body_of, record_of, flat}
-use Rattle.design.proofs.Records.{Framed}
+use Rattle.design.proofs.Records.{Framed, frame_none, fault_framed}
 use Rattle.design.proofs.Walking.{head_size}
-use Rattle.design.proofs.Records.{frame_none, fault_framed}
 use Rattle.design.proofs.Found.{number_two, number_low, number_div, number_mod, record_cases, ends, fine, stage_is, list_is, table_framed, list_framed, Part}
-use Rattle.records.proofs.Joined.{join_snoc}
+use Rattle.records.proofs.Concat.{concat_snoc}
 
 -- record i of the file f as it stands
 abbrev span : List ℕ → ℕ → List ℕ
 span f i = take (4 + u16_at f (place f i)) (drop (place f i) f)
 
-spans : (f : List ℕ) (n : ℕ) → take (place f n) f ≡ join (tabulate n (span f))
-unfolding place join tabulate
+spans : (f : List ℕ) (n : ℕ) → take (place f n) f ≡ concat (tabulate n (span f))
+unfolding place tabulate
 spans f zero = refl
 spans f (suc n) =
     let e : place f n + 4 + u16_at f (place f n) ≡ place f n + (4 + u16_at f (place f n)) = omega arith in
-    rw (e, take-add) (ap (λ (l : List ℕ). l ++ span f n) (spans f n) ∙ sym (join_snoc (span f) n))
+    rw (e, take-add) (ap (λ (l : List ℕ). l ++ span f n) (spans f n) ∙ sym (concat_snoc (span f) n))
 
 next : (f : List ℕ) (at to : ℕ) → at + 1 ≡ to → at < length f → drop at f ≡ byte f at ∷ drop to f
 next f at to e h = rw (← e, add-one) (drop-cons f at 0 h)
@@ -109,7 +109,7 @@ last_two h = omega arith
 
 pub list_size : (z n : ℕ) → length_due 3 z n ≡ true → (n % 4 ≡ 0) × (n ≤ z)
 unfolding length_due
-list_size z n e = (eqb-true _ _ (and_left (eqb (n % 4) 0) _ e), leb-true _ _ (and_right (eqb (n % 4) 0) _ e))
+list_size z n e = (eqb-true _ _ (and_parts (eqb (n % 4) 0) _ e).0, leb-true _ _ (and_parts (eqb (n % 4) 0) _ e).1)
 
 -- the body of a stage's record
 pub body_stage : (d : Design) (t l : ℕ) → t < d.k → l ≤ d.m * d.s → body_of d (number_of (head_for d) t l) ≡ stage_body (stage_of d t) l
@@ -200,7 +200,7 @@ module _ (f : List ℕ) (b : Bytes f) (r : reading f ≡ means (meaning f)) wher
   written =
       let e = ends f (head_of f) (meaning f) (last_of (head_of f) + 1) 0 0 r refl in
       let z : 0 + (last_of (head_of f) + 1) ≡ last_of (head_of f) + 1 = omega arith in
-      sym (take_all (place f (last_of (head_of f) + 1)) f (rw z at e.1)) ∙ spans f (last_of (head_of f) + 1) ∙ ap join (tabulate_congr _ (span f) (record_of (meaning f)) record_is)
+      sym (take_all (place f (last_of (head_of f) + 1)) f (rw z at e.1)) ∙ spans f (last_of (head_of f) + 1) ∙ ap concat (tabulate_congr _ (span f) (record_of (meaning f)) record_is)
 
 -- a list's bytes as they stand, and where
 pub list_part : (f : List ℕ) → Bytes f → (y : Layout) (d : Describes f y) (t l i from : ℕ) → t < y.head.k → l < y.head.m * y.head.s

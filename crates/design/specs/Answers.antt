@@ -1,10 +1,16 @@
--- What the reader answers, by the layout.
+-- What the reader answers, as a reading and by the layout.
 use Rattle.std.specs.Prelude.{Result, Ok, Err}
 use Rattle.design.specs.Layout.{Layout, refused_layout}
 use Rattle.design.specs.Heads.{laid}
+use Rattle.design.specs.Reading.{Reading, refused, means}
+use Rattle.design.specs.Inside.Held.{design_of}
 use Rattle.design.specs.declared.files.DesignFile.{DesignFile}
 use Rattle.design.specs.declared.files.ReadError.{ReadError}
 use Rattle.reasons.specs.Numbers.{number}
+
+abbrev pub reading_of : Result DesignFile ReadError → Reading
+reading_of (Ok d) = means (design_of d)
+reading_of (Err e) = refused (number e.reason) e.place
 
 abbrev pub layout_read : Result DesignFile ReadError → Layout
 layout_read (Ok d) = laid d.head d.starts

@@ -1,6 +1,6 @@
 -- "Bench designs": what files read as, and which heads pass.
 use Rattle.std.specs.Prelude.{ℕ, List, [], ◌∷◌, ◌++◌}
-use Rattle.design.specs.Design.{Design}
+use Rattle.records.specs.Design.{Design}
 use Rattle.design.specs.Reading.{Reading, refused, means}
 
 -- the 47 bytes of D: one bit, three shares

@@ -1,6 +1,8 @@
--- The code's head as the definitions see it.
+-- The code's head as the definitions see it, and the design that a file with this head means.
 use Rattle.std.specs.Prelude.{ℕ, List, Result, Ok, Err}
 use Rattle.design.specs.Limits.{Head}
+use Rattle.records.specs.Design.{Design}
+use Rattle.design.specs.Reading.{meaning}
 use Rattle.design.specs.Layout.{HeadRead, refused_head, Layout}
 use Rattle.design.specs.declared.heads.Head as heads
 use Rattle.reasons.specs.declared.Reason.{Reason}
@@ -26,3 +28,7 @@ laid_by m s k starts = record { reason = 0; place = 0; head = record { m = m; s 
 
 abbrev pub laid : heads.Head → List ℕ → Layout
 laid h starts = laid_by h.m h.s h.k starts
+
+-- the design that a file with this head means, where it reads: its numbers are those of the head, so that what is said of one is said of the other
+abbrev pub design_by : Head → List ℕ → Design
+design_by h f = record { m = h.m; s = h.s; k = h.k; box = (meaning f).box; stages = (meaning f).stages }

@@ -3,3 +3,4 @@ pub mod Described
 pub mod Framing
 pub mod StageLists
 pub mod Lists
+pub mod Held

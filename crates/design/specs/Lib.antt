@@ -1,7 +1,6 @@
 -- The design file.
 pub mod Limits
-pub mod Design
-pub mod Encode
+pub mod WellFormed
 pub mod Reading
 pub mod Refused
 pub mod Layout

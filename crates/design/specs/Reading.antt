@@ -4,7 +4,7 @@ use Rattle.finite.specs.Tests.{pick, all, tabulate}
 use Rattle.finite.specs.Faults.{first_fault}
 use Rattle.anf.specs.Terms.{before}
 use Rattle.design.specs.Limits.{Head, greatest_terms, broken, checked, head_answer}
-use Rattle.design.specs.Design.{Stage, Design}
+use Rattle.records.specs.Design.{Stage, Design}
 use Rattle.records.specs.Bytes.{byte, u16_at, u32_at}
 
 -- a refusal has a reason and a place

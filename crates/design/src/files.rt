@@ -1,12 +1,13 @@
 // A design file that reads: its tables and lists, as parts of it. Stages and lists are counted from 0.
-ghost use Rattle.std.specs.Prelude.{◌≡◌, map, ◌*◌, ◌<◌};
+ghost use Rattle.std.specs.Prelude.{◌≡◌, map, ◌*◌, ◌^◌, ◌<◌, length};
 ghost use Rattle.records.specs.Bytes.{Bytes};
-ghost use Rattle.records.specs.Records.{join};
-ghost use Rattle.design.specs.Design.{stage_of, list_of};
-ghost use Rattle.design.specs.Encode.{stage_bytes};
-ghost use Rattle.design.specs.Reading.{meaning};
+ghost use Rattle.std.specs.List.{concat};
+ghost use Rattle.design.specs.WellFormed.{WellFormed};
+ghost use Rattle.records.specs.Design.{stage_of, list_of};
+ghost use Rattle.records.specs.Encode.{stage_bytes};
+ghost use Rattle.design.specs.Reading.{means, reading};
 ghost use Rattle.design.specs.Inside.Described.{Describes};
-ghost use Rattle.design.specs.Heads.{laid};
+ghost use Rattle.design.specs.Heads.{numbers, laid, design_by};
 
 use super::reader::body_size;
 use super::{GREATEST_RECORDS, Head, Lists};
@@ -39,15 +40,18 @@ pub struct DesignFile<'a> {
     pub starts: [usize; GREATEST_RECORDS],
     pub ghost bytes: { Bytes file.now },
     pub ghost described: { Describes file.now (laid head starts) },
+    pub ghost reads: { reading file.now ≡ means (design_by (numbers head) file.now) },
+    pub ghost formed: { WellFormed (design_by (numbers head) file.now) },
 }
 
 impl<'a> DesignFile<'a> {
     ghost use Rattle.records.specs.Inside.Terms.{terms_of};
     ghost use Rattle.design.specs.Inside.Lists.{lists_held};
+    ghost use Rattle.design.specs.Inside.Held.{design_of};
 
     /// The box S.
     pub fn box_table(&self) -> &'a [u8]
-        ensures { result.now ≡ (meaning self.now.file.now).box }
+        ensures { (result.now ≡ (design_of self.now).box) × (length result.now ≡ 2 ^ self.now.head.m) }
     {
         let from = self.starts[1];
         &self.file[from..from + self.head.points()]
@@ -56,7 +60,7 @@ impl<'a> DesignFile<'a> {
     /// The table of stage `t`.
     pub fn table(&self, t: usize) -> &'a [u8]
         requires { t < self.now.head.k }
-        ensures { result.now ≡ (stage_of (meaning self.now.file.now) t).table }
+        ensures { (result.now ≡ (stage_of (design_of self.now) t).table) × (length result.now ≡ 2 ^ self.now.head.m) }
     {
         let from = self.starts[self.head.number(t, 0)];
         &self.file[from..from + self.head.points()]
@@ -65,7 +69,7 @@ impl<'a> DesignFile<'a> {
     /// List `l` of stage `t`.
     pub fn list(&self, t: usize, l: usize) -> Terms<'a>
         requires { (t < self.now.head.k) × (l < self.now.head.m * self.now.head.s) }
-        ensures { terms_of result ≡ list_of (meaning self.now.file.now) t l }
+        ensures { terms_of result ≡ list_of (design_of self.now) t l }
     {
         let from = self.starts[self.head.number(t, l + 1)];
         let n = body_size(self.file, from - 4);
@@ -75,7 +79,7 @@ impl<'a> DesignFile<'a> {
     /// The lists of stage `t`.
     pub fn lists(&self, t: usize) -> Lists<'_>
         requires { t < self.now.head.k }
-        ensures { lists_held result ≡ (stage_of (meaning self.now.file.now) t).lists }
+        ensures { (lists_held result ≡ (stage_of (design_of self.now) t).lists) × (length (lists_held result) ≡ self.now.head.m * self.now.head.s) }
     {
         let first = self.head.number(t, 1);
         Lists {
@@ -86,7 +90,7 @@ impl<'a> DesignFile<'a> {
 
     /// The records of all stages, one behind the other: what stands between those of the head and the box and that of the end.
     pub fn stages(&self) -> &'a [u8]
-        ensures { result.now ≡ join (map stage_bytes (meaning self.now.file.now).stages) }
+        ensures { result.now ≡ concat (map stage_bytes (design_of self.now).stages) }
     {
         let from = record_size(3) + record_size(self.head.points());
         let end = self.file.len() - record_size(0);

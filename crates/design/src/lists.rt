@@ -1,5 +1,5 @@
 // Lists of a stage that stand one behind the other in a file.
-ghost use Rattle.std.specs.Prelude.{◌≡◌, ◌+◌, ◌*◌, ◌≤◌, ◌<◌, [], length, get_or, take, drop};
+ghost use Rattle.std.specs.Prelude.{◌≡◌, ◌+◌, ◌≤◌, ◌<◌, [], length, get_or, take, drop};
 ghost use Rattle.design.specs.Limits.{greatest_share_bits};
 ghost use Rattle.design.specs.Inside.StageLists.{Stands};
 

@@ -1,22 +1,22 @@
 // Reading: the tests of each record in the published order, and the walk over all records.
 // They take the file and a place, and no slice from there: the place is what a fault names.
-ghost use Rattle.std.specs.Prelude.{◌≡◌, ◌+◌, ◌*◌, ◌/◌, ◌^◌, ◌≤◌, ◌<◌, true, length, take, drop, IfOk};
+ghost use Rattle.std.specs.Prelude.{◌≡◌, ◌+◌, ◌/◌, ◌^◌, ◌≤◌, ◌<◌, true, length, take, drop, IfOk};
 ghost use Rattle.std.specs.Option.{option_map_or};
 ghost use Rattle.finite.specs.Tests.{all};
 ghost use Rattle.anf.specs.Terms.{before};
 ghost use Rattle.records.specs.Bytes.{u16_at};
 ghost use Rattle.records.specs.Kinds.{code};
 ghost use Rattle.reasons.specs.Numbers.{reason_of};
-ghost use Rattle.design.specs.Reading.{head_of, length_due, term_fits, fault_at};
+ghost use Rattle.design.specs.Reading.{reading, head_of, length_due, term_fits, fault_at};
 ghost use Rattle.design.specs.Inside.Framing.{frame_fault};
 ghost use Rattle.design.specs.Layout.{head_read, layout_of};
 ghost use Rattle.design.specs.Heads.{numbers, head_reading};
-ghost use Rattle.design.specs.Answers.{layout_read};
+ghost use Rattle.design.specs.Answers.{reading_of, layout_read};
 
 use super::{DesignFile, GREATEST_RECORDS, Head, ReadError};
-use anf::entries_below;
+use anf::{entries_below, stands_before};
 use reasons::Reason;
-use records::{Kind, Terms, stands_before, u16_at};
+use records::{Kind, Terms, u16_at};
 
 // Whether a record of this kind may have the length `n`.
 fn length_fits(kind: Kind, size: usize, n: usize) -> bool
@@ -113,6 +113,7 @@ fn faultless(file: &[u8], head: Head, i: usize, at: usize) -> Result<usize, Reas
 // The records after the head.
 fn walk(file: &[u8], head: Head) -> Result<DesignFile<'_>, ReadError>
     requires { (numbers head ≡ head_of file.now) × (fault_at file.now (numbers head) 0 0 ≡ 0) }
+    ensures reading { reading_of result ≡ reading file.now }
     ensures layout { layout_read result ≡ layout_of file.now }
     ensures file { IfOk result (λ d. d.file.now ≡ file.now) }
 {
@@ -151,6 +152,7 @@ pub fn read_head(file: &[u8]) -> Result<Head, Reason>
 
 /// Reads a design file: the head record, then the others.
 pub fn read(file: &[u8]) -> Result<DesignFile<'_>, ReadError>
+    ensures reading { reading_of result ≡ reading file.now }
     ensures layout { layout_read result ≡ layout_of file.now }
     ensures file { IfOk result (λ d. d.file.now ≡ file.now) }
 {

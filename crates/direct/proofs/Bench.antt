@@ -9,7 +9,7 @@ use Rattle.finite.specs.Sums.{xor_below}
 use Rattle.finite.specs.Sets.{subset, has}
 use Rattle.anf.specs.NormalForm.{subset_sum}
 use Rattle.anf.specs.Terms.{passing}
-use Rattle.threshold.specs.Sharing.{share}
+use Rattle.sharing.specs.Sharing.{share}
 use Rattle.direct.specs.Direct.{is_product, chosen, placed, component_for, published, stands, direct_list, direct_lists, direct_stage}
 
 -- the definitions that computing opens

@@ -12,11 +12,12 @@ use lib.Bits.{bit_or, or_lt}
 use borrow.Author.Tests.{eqb-true, eqb-false, eq-eqb, ne_eqb, not-true, lt-ltb, le-ltb}
 use Rattle.finite.specs.Tests.{pick, bit, all, any, count}
 use Rattle.finite.specs.Sets.{has}
-use Rattle.finite.proofs.Testing.{bool_ext, not_true_false, clash, all_at, all_intro, any_at, any_some, any_congr, none_any, pick_true, pick_false}
+use Rattle.finite.proofs.Testing.{bool_ext, clash, all_at, all_intro, any_at, any_some, any_congr, none_any, pick_true, pick_false}
+use Rattle.std.proofs.lemmas.Bool.{false_from_ne_true}
 use Rattle.finite.proofs.Counting.{count_one, count_some, count_unique, count_none, count_has}
 use Rattle.finite.proofs.Elements.{has_none, sets-eq, some_element, has_with, has_with_other}
-use Rattle.threshold.proofs.Sharing.{place_lt, place_eq, share_lt, share_has}
-use Rattle.threshold.specs.Sharing.{share}
+use Rattle.sharing.proofs.Sharing.{place_lt, place_eq, share_lt, share_has}
+use Rattle.sharing.specs.Sharing.{share}
 use Rattle.direct.specs.Direct.{is_product, chosen}
 use Rattle.direct.proofs.Products.{product_at, at_product}
 use Rattle.direct.proofs.Placement.{chosen_lt, chosen_has}
@@ -123,7 +124,7 @@ module _ (m s u v p : ℕ) (lv : v < m) (clean : Clean m s (suc v) p) where
       at : extends m s u (suc v) p q ≡ true → (w : ℕ) → w < m → v ≤ w → (j : ℕ) → j < s → Dec (w ≡ v) → has q (m * j + w) ≡ has p (m * j + w)
       at e w l h j k (no d) = extends_kept m s u (suc v) p q e w l (omega arith) j k
       at e w l h j k (yes d) =
-          not_true_false (has q (m * j + w))
+          false_from_ne_true (has q (m * j + w))
           (λ t. omega (arith, count_has s (λ i. has q (m * i + w)) j k t, extends_taken m s u (suc v) p q e w l (omega arith), ap (λ (x : ℕ). bit (has u x)) d, ap bit n))
           ∙ sym (clean w (omega arith) j k)
 
@@ -175,7 +176,7 @@ module _ (m s u v p : ℕ) (lv : v < m) (clean : Clean m s (suc v) p) where
               ap (has q) d ∙ y ∙ sym (ap (has (with_share_of k)) d ∙ has_with p (m * k + v))
           kept k lk y w l h j lj (yes a) (no b) =
               ap (λ (x : ℕ). has q (m * j + x)) a
-              ∙ not_true_false (has q (m * j + v)) (λ z. b (count_unique s (λ i. has q (m * i + v)) (one e) j k lj lk z y))
+              ∙ false_from_ne_true (has q (m * j + v)) (λ z. b (count_unique s (λ i. has q (m * i + v)) (one e) j k lj lk z y))
               ∙ sym (has_with_other p (m * k + v) (m * j + w) (λ z. b (place_eq m j w k v l lv z).0) ∙ clean w (omega arith) j lj)
           kept k lk y w l h j lj (no a) c =
               extends_kept m s u (suc v) p q e w l (omega arith) j lj

@@ -12,14 +12,15 @@ use lib.Count.{ones}
 use borrow.Author.Tests.{eqb-true, eqb-false}
 use Rattle.finite.specs.Tests.{pick, bit, any, count, total}
 use Rattle.finite.specs.Sets.{subset, has}
-use Rattle.finite.proofs.Testing.{true_or_false, any_some}
+use Rattle.std.proofs.lemmas.Bool.{cases_Bool}
+use Rattle.finite.proofs.Testing.{any_some}
 use Rattle.finite.proofs.Counting.{total_congr, total_zero, count_has, total_double, total_times, total_blocks, count_any}
 use Rattle.finite.proofs.Subsets.{Top, low, top, top_cases, xor_top_low, subset_low_top, subset_top_top, subset_top_low, subset_self, xor_top_top}
 use Rattle.finite.proofs.Elements.{ones_count, some_element, ones_top}
 use Rattle.direct.specs.Direct.{is_product}
 use Rattle.direct.proofs.Products.{product_none}
 use Rattle.direct.proofs.Expansion.{product_blocks}
-use Rattle.threshold.proofs.Sharing.{pow_step}
+use Rattle.sharing.proofs.Sharing.{pow_step}
 
 -- ---- the subsets of u
 
@@ -77,7 +78,7 @@ pub products_count : (m s u : ℕ) → u < 2 ^ m → count (2 ^ (m * s)) (is_pro
 unfolding total
 products_count m zero u l =
     ap (λ (x : ℕ). count x (is_product m 0 u)) (ap (λ (x : ℕ). 2 ^ x) (mul-zero m))
-    ∙ ap (λ (b : Bool). bit b + 0) (product_none m u 0 l) ∙ at (true_or_false (eqb u 0))
+    ∙ ap (λ (b : Bool). bit b + 0) (product_none m u 0 l) ∙ at (cases_Bool (eqb u 0))
   where
     at : (eqb u 0 ≡ true) ⊎ (eqb u 0 ≡ false) → bit (eqb u 0) + 0 ≡ 0 ^ ones u
     at (inl e) = rw (eqb-true u 0 e) (unfold ones in refl)

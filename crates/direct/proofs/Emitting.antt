@@ -130,7 +130,7 @@ module _ (m s u v : ℕ) (t : 2 ^ v ≤ u) (h : u < 2 * 2 ^ v) (l : u < 2 ^ m) w
     where
       rest : (j : ℕ) → emitted m s place u c v (bit_or p (2 ^ (m * j + v))) (bit_or J (2 ^ j)) ≡ emitted m s place (u - 2 ^ v) c m (bit_or p (2 ^ (m * j + v))) (bit_or J (2 ^ j))
       rest j =
-          emitted_alike m s place u (u - 2 ^ v) c v _ _ (λ w k. ap (λ (x : ℕ). has x w) whole ∙ has_low v 1 (u - 2 ^ v) w left_lt k)
+          emitted_alike m s place u (u - 2 ^ v) c v _ _ (λ w k. ap (λ (x : ℕ). has x w) whole ∙ has_low v 1 (u - 2 ^ v) w k)
           ∙ sym (emitted_high m s place (u - 2 ^ v) c v m _ _ left_lt (omega (arith, variable_lt)))
 
 -- a turn of a loop that puts each list f j into its place

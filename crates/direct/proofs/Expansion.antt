@@ -17,8 +17,8 @@ use Rattle.finite.proofs.Subsets.{Top, low, top, top_cases, xor_top_low, subset_
 use Rattle.finite.proofs.Elements.{subset_low, subset_split, subset_top, subset_one_xor}
 use Rattle.anf.specs.NormalForm.{subset_sum}
 use Rattle.anf.proofs.SubsetSums.{subset_sum_ext, subset_sum_none, subset_sum_low, subset_sum_top, subset_sum_zero}
-use Rattle.threshold.specs.Sharing.{share, sum}
-use Rattle.threshold.proofs.Sharing.{share_top, pow_step}
+use Rattle.sharing.specs.Sharing.{share, sum}
+use Rattle.sharing.proofs.Sharing.{share_top, pow_step}
 use Rattle.direct.specs.Direct.{is_product}
 use Rattle.direct.proofs.Products.{product_more, product_low, product_none}
 

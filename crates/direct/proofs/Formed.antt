@@ -10,13 +10,14 @@ use lib.ListN.{length, get_or}
 use borrow.Author.Tests.{leb-true}
 use Rattle.finite.specs.Tests.{implies, all, any}
 use Rattle.finite.specs.Sets.{has}
-use Rattle.finite.proofs.Testing.{all_at, implies_at, and_left, any_some, any_at}
+use Rattle.finite.proofs.Testing.{all_at, implies_at, any_some, any_at}
+use Rattle.std.proofs.lemmas.Bool.{and_parts}
 use Rattle.finite.proofs.Counting.{count_mono}
 use Rattle.anf.specs.NormalForm.{subset_sum}
-use Rattle.anf.specs.Tables.{entry}
-use Rattle.anf.proofs.Passing.{passing_terms, passing_length}
+use Rattle.anf.specs.Tables.{entry, TableFits}
+use Rattle.anf.proofs.PassingLists.{passing_terms, passing_length}
 use Rattle.design.specs.Limits.{greatest_terms, broken}
-use Rattle.design.specs.Design.{TableFits, ListFits, StageFits, WellFormed}
+use Rattle.design.specs.WellFormed.{ListFits, StageFits, WellFormed}
 use Rattle.design.proofs.Limits.{bounds}
 use Rattle.direct.specs.Direct.{is_product, stands, direct_list, direct_stage, direct_sharing}
 use Rattle.direct.proofs.Counts.{products_most}
@@ -46,8 +47,8 @@ list_size m s place f c b h =
   where
     some : (p : ℕ) → stands m s place f c b p ≡ true → any (2 ^ m) (λ u. is_product m s u p) ≡ true
     some p e =
-        let u = any_some (2 ^ m) (λ u. is_product m s u p && has (f u) b) (unfold stands in and_left _ _ e) in
-        any_at (2 ^ m) (λ u. is_product m s u p) u.0 u.1 (and_left (is_product m s u.0 p) (has (f u.0) b) u.2)
+        let u = any_some (2 ^ m) (λ u. is_product m s u p && has (f u) b) (unfold stands in (and_parts _ _ e).0) in
+        any_at (2 ^ m) (λ u. is_product m s u p) u.0 u.1 (and_parts (is_product m s u.0 p) (has (f u.0) b) u.2).0
 
 pub list_fits : (m s : ℕ) (place : ℕ → ℕ) (f : ℕ → ℕ) (c b : ℕ) → broken m s 1 ≡ false → ListFits (m * s) (direct_list m s place f c b)
 list_fits m s place f c b h = record { size = list_size m s place f c b h; terms = unfold direct_list in passing_terms (m * s) (stands m s place f c b) }

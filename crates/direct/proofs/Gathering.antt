@@ -15,13 +15,13 @@ use lib.ListN.{length, get_or}
 use borrow.Author.Tests.{eqb-true, eq-eqb, lt-ltb}
 use Rattle.finite.specs.Tests.{pick, any}
 use Rattle.finite.specs.Sets.{has}
-use Rattle.finite.proofs.Testing.{true_or_false, not_true_false, clash, pick_true, pick_false, and_intro, and_left, and_false_right}
-use Rattle.finite.proofs.Testing.{or_none, or_left, or_right, or_false_right, any_at, any_some}
+use Rattle.std.proofs.lemmas.Bool.{cases_Bool, false_from_ne_true, and_from, and_parts, and_right, or_from, or_left, or_right}
+use Rattle.finite.proofs.Testing.{clash, pick_true, pick_false, or_false_right, any_at, any_some}
 use Rattle.finite.proofs.Elements.{has_none}
 use Rattle.anf.specs.Terms.{before, passing}
 use Rattle.anf.proofs.Order.{before_total, First, Rising, first_trans, member}
 use Rattle.anf.proofs.Terms.{unique_members}
-use Rattle.anf.proofs.Passing.{passing_rising, passing_member, passing_congr, passing_none}
+use Rattle.anf.proofs.PassingLists.{passing_rising, passing_member, passing_congr, passing_none}
 use Rattle.design.specs.Limits.{greatest_terms, broken}
 use Rattle.design.proofs.Limits.{bounds}
 use Rattle.direct.specs.Direct.{is_product, chosen, stands, direct_list}
@@ -42,7 +42,7 @@ placed_in_behind t x l e = rw (e, one-add) refl
 
 first_placed : (x t : ℕ) (l : List ℕ) → before x t ≡ true → First x l → First x (placed_in t l)
 first_placed x t [] h f = (h, tt)
-first_placed x t (u ∷ l) h f = at (first_placed x t l h f.1) (true_or_false (before t u))
+first_placed x t (u ∷ l) h f = at (first_placed x t l h f.1) (cases_Bool (before t u))
   where
     at : First x (placed_in t l) → (before t u ≡ true) ⊎ (before t u ≡ false) → First x (placed_in t (u ∷ l))
     at ih (inl e) = rw (placed_in_here t u l e) (h, f)
@@ -51,7 +51,7 @@ first_placed x t (u ∷ l) h f = at (first_placed x t l h f.1) (true_or_false (b
 -- a rising list with t in its place rises, where t is none of its terms
 rising_placed : (n t : ℕ) (l : List ℕ) → t < n → Rising n l → member t l ≡ false → Rising n (placed_in t l)
 rising_placed n t [] h r m = (h, tt, tt)
-rising_placed n t (u ∷ l) h r m = at (rising_placed n t l h r.2) (true_or_false (before t u))
+rising_placed n t (u ∷ l) h r m = at (rising_placed n t l h r.2) (cases_Bool (before t u))
   where
     behind : before t u ≡ false → (before u t ≡ true) ⊎ (before u t ≡ false) → before u t ≡ true
     behind e (inl q) = q
@@ -60,13 +60,13 @@ rising_placed n t (u ∷ l) h r m = at (rising_placed n t l h r.2) (true_or_fals
     at : (member t l ≡ false → Rising n (placed_in t l)) → (before t u ≡ true) ⊎ (before t u ≡ false) → Rising n (placed_in t (u ∷ l))
     at ih (inl e) = rw (placed_in_here t u l e) (h, (e, first_trans t u l e r.1), r)
     at ih (inr e) =
-        let none : member t l ≡ false = not_true_false (member t l) (λ q. clash (or_right (eqb t u) (member t l) q) m) in
-        rw (placed_in_behind t u l e) (r.0, first_placed u t l (behind e (true_or_false (before u t))) r.1, ih none)
+        let none : member t l ≡ false = false_from_ne_true (member t l) (λ q. clash (or_right (eqb t u) (member t l) q) m) in
+        rw (placed_in_behind t u l e) (r.0, first_placed u t l (behind e (cases_Bool (before u t))) r.1, ih none)
 
 -- its terms are t and those of the list
 member_placed : (u t : ℕ) (l : List ℕ) → member u (placed_in t l) ≡ (member u l || eqb u t)
 member_placed u t [] = or_false_right (eqb u t) false refl
-member_placed u t (x ∷ l) = at (member_placed u t l) (true_or_false (before t x))
+member_placed u t (x ∷ l) = at (member_placed u t l) (cases_Bool (before t x))
   where
     at : member u (placed_in t l) ≡ (member u l || eqb u t) → (before t x ≡ true) ⊎ (before t x ≡ false)
         → member u (placed_in t (x ∷ l)) ≡ (member u (x ∷ l) || eqb u t)
@@ -83,14 +83,14 @@ inserted_passing n t P l f =
     Q q = P q || eqb q t
 
     none : member t (passing n P) ≡ false
-    none = passing_member n P t ∙ and_false_right (ltb t n) (P t) f
+    none = passing_member n P t ∙ and_right (ltb t n) (P t) f
 
     within : (u : ℕ) → (eqb u t ≡ true) ⊎ (eqb u t ≡ false) → eqb u t ≡ (ltb u n && eqb u t)
-    within u (inl e) = e ∙ sym (and_intro (lt-ltb u n (omega (arith, eqb-true u t e))) e)
-    within u (inr e) = e ∙ sym (and_false_right (ltb u n) (eqb u t) e)
+    within u (inl e) = e ∙ sym (and_from _ _ (lt-ltb u n (omega (arith, eqb-true u t e))) e)
+    within u (inr e) = e ∙ sym (and_right (ltb u n) (eqb u t) e)
 
     with_t : (u : ℕ) → ((ltb u n && P u) || eqb u t) ≡ (ltb u n && (P u || eqb u t))
-    with_t u = ap (λ (b : Bool). (ltb u n && P u) || b) (within u (true_or_false (eqb u t))) ∙ sym (and-or_distrib_left (ltb u n) (P u) (eqb u t))
+    with_t u = ap (λ (b : Bool). (ltb u n && P u) || b) (within u (cases_Bool (eqb u t))) ∙ sym (and-or_distrib_left (ltb u n) (P u) (eqb u t))
 
 -- ---- the products of a term
 
@@ -109,7 +109,7 @@ module _ (m s : ℕ) (place : ℕ → ℕ) (u c : ℕ) (some : 0 < m) where
   -- no variable left
   added_end : (p : ℕ) → p < N → Added 0 p
   unfolding emitted
-  added_end p lp P apart = at (true_or_false (goes p))
+  added_end p lp P apart = at (cases_Bool (goes p))
     where
       at : (goes p ≡ true) ⊎ (goes p ≡ false)
           → inserted_all (ending place c p (chosen m s p)) (passing N P) ≡ passing N (λ q. P q || (extends m s u 0 p q && goes q))
@@ -117,16 +117,16 @@ module _ (m s : ℕ) (place : ℕ → ℕ) (u c : ℕ) (some : 0 < m) where
           ap (λ (ts : List ℕ). inserted_all ts (passing N P)) (ending_here place c p (chosen m s p) (eqb-true _ _ t))
           ∙ inserted_one p (passing N P)
           ∙ inserted_passing N p P lp (apart p lp (extends_none m s u p p some lp lp ∙ eq-eqb p p refl))
-          ∙ passing_congr N _ _ (λ q l. ap (λ (b : Bool). P q || b) (here q (true_or_false (eqb q p)) ∙ ap (λ (b : Bool). b && goes q) (sym (extends_none m s u p q some lp l))))
+          ∙ passing_congr N _ _ (λ q l. ap (λ (b : Bool). P q || b) (here q (cases_Bool (eqb q p)) ∙ ap (λ (b : Bool). b && goes q) (sym (extends_none m s u p q some lp l))))
         where
           here : (q : ℕ) → (eqb q p ≡ true) ⊎ (eqb q p ≡ false) → eqb q p ≡ (eqb q p && goes q)
-          here q (inl e) = e ∙ sym (and_intro e (ap goes (eqb-true q p e) ∙ t))
+          here q (inl e) = e ∙ sym (and_from _ _ e (ap goes (eqb-true q p e) ∙ t))
           here q (inr e) = e ∙ sym (ap (λ (b : Bool). b && goes q) e)
       at (inr f) =
           ap (λ (ts : List ℕ). inserted_all ts (passing N P))
           (ending_other place c p (chosen m s p) (λ e. clash (eq-eqb (place (chosen m s p)) c e) f))
           ∙ inserted_none (passing N P)
-          ∙ passing_congr N _ _ (λ q l. sym (ap (λ (b : Bool). P q || (b && goes q)) (extends_none m s u p q some lp l) ∙ other q (true_or_false (eqb q p)) ∙ or_false_right (P q) false refl))
+          ∙ passing_congr N _ _ (λ q l. sym (ap (λ (b : Bool). P q || (b && goes q)) (extends_none m s u p q some lp l) ∙ other q (cases_Bool (eqb q p)) ∙ or_false_right (P q) false refl))
         where
           other : (q : ℕ) → (eqb q p ≡ true) ⊎ (eqb q p ≡ false) → (P q || (eqb q p && goes q)) ≡ (P q || false)
           other q (inl e) = ap (λ (b : Bool). P q || b) (ap (λ (b : Bool). b && goes q) e ∙ ap goes (eqb-true q p e) ∙ f)
@@ -162,14 +162,14 @@ module _ (m s : ℕ) (place : ℕ → ℕ) (u c : ℕ) (some : 0 < m) where
 
         fresh : (q : ℕ) → q < N → extends m s u v (p_with k) q ≡ true → before_k q ≡ false
         fresh q l e =
-            or_none
+            or_from _ _
             (apart q l (extends_each m s u v p lv clean t q ∙ any_at s _ k h e))
-            (ap (λ (b : Bool). b && goes q) (not_true_false (any k (λ j. extends m s u v (p_with j) q))
+            (ap (λ (b : Bool). b && goes q) (false_from_ne_true (any k (λ j. extends m s u v (p_with j) q))
             (λ y. let j = any_some k _ y in omega (arith, extends_apart m s u v p lv clean k j.0 q h e j.2, j.1))))
 
     added_more : Added (suc v) p
     unfolding emitted
-    added_more P apart = at (true_or_false (has u v))
+    added_more P apart = at (cases_Bool (has u v))
       where
         at : (has u v ≡ true) ⊎ (has u v ≡ false)
             → inserted_all (pick (has u v) (joined s (through m s place u c v p (chosen m s p))) (emitted m s place u c v p (chosen m s p))) (passing N P)
@@ -202,7 +202,7 @@ module _ (m s : ℕ) (place : ℕ → ℕ) (some : 0 < m) (words : ℕ → ℕ) 
   gathered_below (suc n) h =
       inserted_all_append (joined n brings) (brings n) []
       ∙ ap (inserted_all (brings n)) (gathered_below n (omega arith))
-      ∙ at (true_or_false (has (words n) b))
+      ∙ at (cases_Bool (has (words n) b))
     where
       at : (has (words n) b ≡ true) ⊎ (has (words n) b ≡ false)
           → inserted_all (brings n) (passing (2 ^ (m * s)) (so_far n))
@@ -210,13 +210,13 @@ module _ (m s : ℕ) (place : ℕ → ℕ) (some : 0 < m) (words : ℕ → ℕ) 
       at (inl t) =
           ap (λ (ts : List ℕ). inserted_all ts (passing (2 ^ (m * s)) (so_far n))) (pick_true (has (words n) b) _ [] t ∙ ap (emitted m s place n c m 0) (sym (chosen_none m s)))
           ∙ added m s place n c some m 0 (omega arith) (pow_pos (m * s)) (λ w l j k. has_none (m * j + w)) (so_far n)
-          (λ q l e. ap (λ (x : Bool). x && eqb (place (chosen m s q)) c) (not_true_false _ (λ y. fresh q (sym (extends_all m s n 0 q) ∙ e) (any_some n _ y))))
+          (λ q l e. ap (λ (x : Bool). x && eqb (place (chosen m s q)) c) (false_from_ne_true _ (λ y. fresh q (sym (extends_all m s n 0 q) ∙ e) (any_some n _ y))))
           ∙ passing_congr (2 ^ (m * s)) _ _ (λ q l. group (any n (λ u. is_product m s u q && has (words u) b)) (eqb (place (chosen m s q)) c)
           (extends m s n m 0 q) (is_product m s n q) (has (words n) b) (extends_all m s n 0 q) t)
         where
           fresh : (q : ℕ) → is_product m s n q ≡ true → (u : ℕ) × (u < n) × ((is_product m s u q && has (words u) b) ≡ true) → ⊥
           fresh q e u =
-              omega (arith, product_term m s u.0 n q (omega (arith, u.1)) h (and_left (is_product m s u.0 q) (has (words u.0) b) u.2) e, u.1)
+              omega (arith, product_term m s u.0 n q (omega (arith, u.1)) h (and_parts (is_product m s u.0 q) (has (words u.0) b) u.2).0 e, u.1)
 
           group : (x g e i y : Bool) → e ≡ i → y ≡ true → ((x && g) || (e && g)) ≡ ((x || (i && y)) && g)
           group x g e i y p q = ap (λ (z : Bool). (x && g) || (z && g)) p ∙ go x i ∙ ap (λ (z : Bool). (x || (i && z)) && g) (sym q)
@@ -255,7 +255,7 @@ inserted_length : (t : ℕ) (l : List ℕ) → length (placed_in t l) ≡ suc (l
 inserted_length t [] = refl
 inserted_length t (x ∷ l) =
     let ih = inserted_length t l in
-    ⊎_elim (λ e. ap length (placed_in_here t x l e)) (λ e. ap length (placed_in_behind t x l e) ∙ ap suc ih) (true_or_false (before t x))
+    ⊎_elim (λ e. ap length (placed_in_here t x l e)) (λ e. ap length (placed_in_behind t x l e) ∙ ap suc ih) (cases_Bool (before t x))
 
 pub inserted_all_length : (ts l : List ℕ) → length (inserted_all ts l) ≡ length ts + length l
 unfolding inserted_all

@@ -17,7 +17,8 @@ use Rattle.std.proofs.lemmas.Grind.{get_or_default_zero}
 use Rattle.std.proofs.lemmas.List.{get_or_past}
 use Rattle.finite.specs.Tests.{pick, implies, all, first, any, tabulate}
 use Rattle.finite.specs.Sets.{has}
-use Rattle.finite.proofs.Testing.{clash, and_intro, and_left, and_right, and_false_right, all_at, all_intro, implies_at, pick_true, pick_false}
+use Rattle.finite.proofs.Testing.{clash, all_at, all_intro, implies_at, pick_true, pick_false}
+use Rattle.std.proofs.lemmas.Bool.{and_from, and_parts, and_right}
 use Rattle.finite.proofs.Elements.{has_none, has_all}
 use Rattle.design.specs.Limits.{greatest_shares, broken}
 use Rattle.design.proofs.Limits.{bounds}
@@ -50,19 +51,19 @@ module _ (s : ℕ) (l : List ℕ) where
   pub loaded : loads s l ≡ true → Loads s l
   unfolding loads is_outside
   loaded e =
-      let each = λ (i : ℕ) (h : i < 2 ^ s - 2). all_at (2 ^ s - 2) _ (and_right (eqb (length l) (2 ^ s - 2)) _ e) i h in
+      let each = λ (i : ℕ) (h : i < 2 ^ s - 2). all_at (2 ^ s - 2) _ (and_parts (eqb (length l) (2 ^ s - 2)) _ e).1 i h in
       record {
-        size = eqb-true _ _ (and_left _ _ e);
-        least = λ i h. leb-true _ _ (and_left (leb 1 (get_or l i 0)) _ (and_left (leb 1 (get_or l i 0) && leb (get_or l i 0) s) _ (each i h)));
-        most = λ i h. leb-true _ _ (and_right (leb 1 (get_or l i 0)) _ (and_left (leb 1 (get_or l i 0) && leb (get_or l i 0) s) _ (each i h)));
-        outside = λ i h. not-true _ (and_right (leb 1 (get_or l i 0) && leb (get_or l i 0) s) _ (each i h));
+        size = eqb-true _ _ (and_parts _ _ e).0;
+        least = λ i h. leb-true _ _ (and_parts (leb 1 (get_or l i 0)) _ (and_parts (leb 1 (get_or l i 0) && leb (get_or l i 0) s) _ (each i h)).0).0;
+        most = λ i h. leb-true _ _ (and_parts (leb 1 (get_or l i 0)) _ (and_parts (leb 1 (get_or l i 0) && leb (get_or l i 0) s) _ (each i h)).0).1;
+        outside = λ i h. not-true _ (and_parts (leb 1 (get_or l i 0) && leb (get_or l i 0) s) _ (each i h)).1;
       }
 
   pub loading : Loads s l → loads s l ≡ true
   unfolding loads is_outside
   loading a =
-      and_intro (eq-eqb _ _ a.size)
-      (all_intro (2 ^ s - 2) _ (λ i h. and_intro (and_intro (le-leb _ _ (a.least i h)) (le-leb _ _ (a.most i h))) (ap not (a.outside i h))))
+      and_from _ _ (eq-eqb _ _ a.size)
+      (all_intro (2 ^ s - 2) _ (λ i h. and_from _ _ (and_from _ _ (le-leb _ _ (a.least i h)) (le-leb _ _ (a.most i h))) (ap not (a.outside i h))))
 
 -- ---- `loads`: k is how many sets of shares there are
 
@@ -137,10 +138,10 @@ module _ (s : ℕ) (low : 3 ≤ s) (high : s ≤ 5) where
   of_rule = implies_at (leb 3 s) _ (all_at 6 _ rule_loads s (omega arith)) (le-leb 3 s low)
 
   pub published_loads : Loads s (published s)
-  published_loads = loaded s (published s) (and_left _ _ of_rule)
+  published_loads = loaded s (published s) (and_parts _ _ of_rule).0
 
   pub published_rule : (J : ℕ) → J < 2 ^ s → placed s (published s) J ≡ component_for s J
-  published_rule J h = eqb-true _ _ (all_at (2 ^ s) _ (and_right (loads s (published s)) _ of_rule) J h)
+  published_rule J h = eqb-true _ _ (all_at (2 ^ s) _ (and_parts (loads s (published s)) _ of_rule).1 J h)
 
 -- ---- the published tables in the code
 
@@ -160,7 +161,7 @@ of_none s a b c = at (dec_lt s 3) (dec_lt 5 s)
   where
     at : Dec (s < 3) → Dec (5 < s) → [] ≡ pick (leb 3 s && leb s 5) (tabulate (2 ^ s - 2) (λ i. component_for s (i + 1) + 1)) []
     at (yes h) d = ap (λ (x : Bool). pick (x && leb s 5) (tabulate (2 ^ s - 2) (λ i. component_for s (i + 1) + 1)) []) (sym (lt-leb _ _ h))
-    at (no h) (yes k) = sym (pick_false (leb 3 s && leb s 5) _ _ (and_false_right (leb 3 s) (leb s 5) (lt-leb _ _ k)))
+    at (no h) (yes k) = sym (pick_false (leb 3 s && leb s 5) _ _ (and_right (leb 3 s) (leb s 5) (lt-leb _ _ k)))
     at (no h) (no k) = absurd (omega arith)
 
 -- ---- `Rule::new`: the head has k stages

@@ -11,11 +11,12 @@ use lib.Count.{ones}
 use borrow.Author.Tests.{eqb-true, eqb-false, eq-eqb, ne_eqb, not-true, not-false}
 use Rattle.finite.specs.Tests.{pick, bit, any, first, count}
 use Rattle.finite.specs.Sets.{has}
-use Rattle.finite.proofs.Testing.{true_or_false, clash, and_left, any_some, any_none, first_is, first_none, pick_true, pick_false}
+use Rattle.std.proofs.lemmas.Bool.{cases_Bool, and_parts}
+use Rattle.finite.proofs.Testing.{clash, any_some, any_none, first_is, first_none, pick_true, pick_false}
 use Rattle.finite.proofs.Counting.{total_congr, total_mono, count_has, total_swap, total_const}
 use Rattle.finite.proofs.Elements.{has_none, some_element, ones_count, made_lt, made_has}
-use Rattle.threshold.specs.Sharing.{share}
-use Rattle.threshold.proofs.Sharing.{share_lt, share_has}
+use Rattle.sharing.specs.Sharing.{share}
+use Rattle.sharing.proofs.Sharing.{share_lt, share_has}
 use Rattle.direct.specs.Direct.{is_product, chosen, after, component_for}
 use Rattle.direct.proofs.Products.{product_at}
 
@@ -63,7 +64,7 @@ module _ (s J : ℕ) where
       at ih (no n) = ih (omega arith)
 
   goes_some : (c d : ℕ) → c < s → d < s → has J c ≡ false → has J d ≡ true → any s goes ≡ true
-  goes_some c d lc ld nc yd = ⊎_elim (λ t. t) (λ f. absurd (clash (all f) nc)) (true_or_false (any s goes))
+  goes_some c d lc ld nc yd = ⊎_elim (λ t. t) (λ f. absurd (clash (all f) nc)) (cases_Bool (any s goes))
     where
       all : any s goes ≡ false → has J c ≡ true
       all f =
@@ -74,23 +75,23 @@ module _ (s J : ℕ) where
   -- a component among the s is outside J
   component_outside : (c : ℕ) → c < s → component_for s J ≡ c → has J c ≡ false
   unfolding component_for
-  component_outside c l e = at (true_or_false (eqb J 0))
+  component_outside c l e = at (cases_Bool (eqb J 0))
     where
       at : (eqb J 0 ≡ true) ⊎ (eqb J 0 ≡ false) → has J c ≡ false
       at (inl z) = ap (λ (x : ℕ). has x c) (eqb-true J 0 z) ∙ has_none c
-      at (inr z) = from (true_or_false (any s goes))
+      at (inr z) = from (cases_Bool (any s goes))
         where
           f : first s goes ≡ c
           f = sym (pick_false (eqb J 0) 0 (first s goes) z) ∙ e
 
           from : (any s goes ≡ true) ⊎ (any s goes ≡ false) → has J c ≡ false
-          from (inl t) = ap (has J) (sym f) ∙ not-true _ (and_left (not (has J (first s goes))) _ (first_is s goes t).1)
+          from (inl t) = ap (has J) (sym f) ∙ not-true _ (and_parts (not (has J (first s goes))) _ (first_is s goes t).1).0
           from (inr n) = absurd (omega (arith, first_none s goes n, f))
 
   -- where some share is not chosen, it is one of the s
   component_lt : J < 2 ^ s → (c : ℕ) → c < s → has J c ≡ false → component_for s J < s
   unfolding component_for
-  component_lt lJ c l n = at (true_or_false (eqb J 0))
+  component_lt lJ c l n = at (cases_Bool (eqb J 0))
     where
       at : (eqb J 0 ≡ true) ⊎ (eqb J 0 ≡ false) → pick (eqb J 0) 0 (first s goes) < s
       at (inl z) = rw z (omega arith)
@@ -104,7 +105,7 @@ rule_outside s = record { some = component_lt s; outside = λ J l. component_out
 -- ---- a product of fewer than s variables leaves a share out
 
 pub left_out : (m s u p : ℕ) → u < 2 ^ m → is_product m s u p ≡ true → ones u < s → (c : ℕ) × (c < s) × (share m c p ≡ 0)
-left_out m s u p l e h = at (true_or_false (any s (λ j. eqb (share m j p) 0)))
+left_out m s u p l e h = at (cases_Bool (any s (λ j. eqb (share m j p) 0)))
   where
     at : (any s (λ j. eqb (share m j p) 0) ≡ true) ⊎ (any s (λ j. eqb (share m j p) 0) ≡ false) → (c : ℕ) × (c < s) × (share m c p ≡ 0)
     at (inl t) = let r = any_some s _ t in (r.0, r.1, eqb-true _ _ r.2)

@@ -14,8 +14,8 @@ use Rattle.finite.specs.Sets.{subset, has}
 use Rattle.finite.proofs.Testing.{bool_ext, all_at, all_intro, all_congr, all_and}
 use Rattle.finite.proofs.Counting.{count_congr, bit_inj}
 use Rattle.finite.proofs.Elements.{has_none, sets-eq, unlike, has_xor, subset_all, has_low}
-use Rattle.threshold.specs.Sharing.{share}
-use Rattle.threshold.proofs.Sharing.{place_lt, share_lt, share_has}
+use Rattle.sharing.specs.Sharing.{share}
+use Rattle.sharing.proofs.Sharing.{place_lt, share_lt, share_has}
 use Rattle.direct.specs.Direct.{is_product}
 
 pub product_at : (m s u p : ℕ) → is_product m s u p ≡ true → (v : ℕ) → v < m → count s (λ j. has p (m * j + v)) ≡ bit (has u v)
@@ -58,7 +58,7 @@ pub product_low : (m s u a r : ℕ) → r < 2 ^ (m * s) → is_product m s u (a 
 unfolding is_product
 product_low m s u a r l =
     all_congr m _ _ (λ v k. ap (λ (c : ℕ). eqb c (bit (has u v)))
-    (count_congr s (λ j. has (a * 2 ^ (m * s) + r) (m * j + v)) (λ j. has r (m * j + v)) (λ j h. has_low (m * s) a r (m * j + v) l (place_lt m s j v h k))))
+    (count_congr s (λ j. has (a * 2 ^ (m * s) + r) (m * j + v)) (λ j. has r (m * j + v)) (λ j h. has_low (m * s) a r (m * j + v) (place_lt m s j v h k))))
 
 -- with no share at all only the empty term has a product
 pub product_none : (m u p : ℕ) → u < 2 ^ m → is_product m 0 u p ≡ eqb u 0

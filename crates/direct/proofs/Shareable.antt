@@ -11,11 +11,11 @@ use Rattle.anf.specs.NormalForm.{degree}
 use Rattle.anf.specs.Points.{Points}
 use Rattle.anf.specs.Tables.{entry}
 use Rattle.anf.proofs.Degree.{degree_bound}
-use Rattle.design.specs.Design.{TableFits}
-use Rattle.threshold.specs.Stages.{component}
-use Rattle.threshold.specs.Running.{packed}
-use Rattle.threshold.proofs.Sharing.{sum_shares}
-use Rattle.threshold.proofs.Packing.{packed_lt, packed_set, share_packed}
+use Rattle.anf.specs.Tables.{TableFits}
+use Rattle.sharing.specs.Stages.{component}
+use Rattle.sharing.specs.Sharing.{packed}
+use Rattle.sharing.proofs.Sharing.{sum_shares}
+use Rattle.sharing.proofs.Packing.{packed_lt, packed_set, share_packed}
 use Rattle.direct.specs.Direct.{component_for, direct_stage, Shareable}
 use Rattle.direct.proofs.Placement.{rule_outside}
 use Rattle.direct.proofs.Stage.{direct_correct, direct_non_complete}

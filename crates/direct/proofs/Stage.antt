@@ -14,22 +14,23 @@ use borrow.Author.Tests.{eqb-true, eq-eqb, ne_eqb}
 use Rattle.finite.specs.Tests.{pick, bit, any}
 use Rattle.finite.specs.Sums.{xor_below}
 use Rattle.finite.specs.Sets.{subset, has}
-use Rattle.finite.proofs.Testing.{true_or_false, clash, and_left, and_right, any_some, any_none, any_congr, tabulate_at, tabulate_congr, tabulate_length}
+use Rattle.std.proofs.lemmas.Bool.{cases_Bool, and_parts}
+use Rattle.finite.proofs.Testing.{clash, any_some, any_none, any_congr, tabulate_at, tabulate_congr, tabulate_length}
 use Rattle.finite.proofs.Sums.{xor_below_ext, xor_below_none, xor_below_one, xor_below_swap, xor_below_bit, xor_below_lt, pick_zero, xor_below_pick}
-use Rattle.finite.proofs.Elements.{has_none, bits_eq}
+use Rattle.finite.proofs.Elements.{has_none}
+use Rattle.std.proofs.lemmas.Nat.Bits.{same_from_bits_below}
 use Rattle.anf.specs.NormalForm.{subset_sum, degree}
 use Rattle.anf.specs.Terms.{value_at}
-use Rattle.anf.specs.Tables.{entry}
+use Rattle.anf.specs.Tables.{entry, TableFits}
 use Rattle.anf.proofs.Terms.{clear_add, subset_clear}
-use Rattle.anf.proofs.Passing.{value_at_passing, table_terms, passing_congr}
+use Rattle.anf.proofs.PassingLists.{value_at_passing, table_terms, passing_congr}
 use Rattle.anf.proofs.Degree.{degree_at}
-use Rattle.design.specs.Design.{TableFits}
-use Rattle.threshold.specs.Sharing.{share, sum, with_share}
-use Rattle.threshold.specs.Inside.Variables.{variables}
-use Rattle.threshold.specs.Stages.{output, component, Correct, Ignores, NonComplete}
-use Rattle.threshold.proofs.Sharing.{place_lt, share_lt, sum_lt, with_own, setting_with, share_bit, place_div, place_mod}
-use Rattle.threshold.proofs.Output.{output_bit, component_eq}
-use Rattle.threshold.proofs.Dependence.{clear_variables, setting_clear}
+use Rattle.sharing.specs.Sharing.{share, sum, with_share}
+use Rattle.sharing.specs.Inside.Variables.{variables}
+use Rattle.sharing.specs.Stages.{output, component, Correct, Ignores, NonComplete}
+use Rattle.sharing.proofs.Sharing.{place_lt, share_lt, sum_lt, with_own, setting_with, share_bit, place_div, place_mod}
+use Rattle.sharing.proofs.Output.{output_bit, component_eq}
+use Rattle.sharing.proofs.Dependence.{clear_variables, setting_clear}
 use Rattle.direct.specs.Direct.{is_product, chosen, stands, direct_list, direct_lists, direct_stage, direct_sharing}
 use Rattle.direct.proofs.Products.{product_term}
 use Rattle.direct.proofs.Expansion.{expansion}
@@ -85,7 +86,7 @@ module _ (m s : ℕ) (f : ℕ → ℕ) (low : degree m f < s) (b : ℕ) where
     once : (p σ : ℕ) → xor_below s (λ c. pick (subset p σ) (bit (stands m s place (subset_sum m f) c b p)) 0)
         ≡ xor_below (2 ^ m) (λ u. pick (has (subset_sum m f u) b) (pick (is_product m s u p) (pick (subset p σ) 1 0) 0) 0)
     unfolding stands
-    once p σ = at (true_or_false (expanded p))
+    once p σ = at (cases_Bool (expanded p))
       where
         -- the same on both sides
         at : (expanded p ≡ true) ⊎ (expanded p ≡ false)
@@ -93,13 +94,13 @@ module _ (m s : ℕ) (f : ℕ → ℕ) (low : degree m f < s) (b : ℕ) where
             ≡ xor_below (2 ^ m) (λ u. pick (has (subset_sum m f u) b) (pick (is_product m s u p) (pick (subset p σ) 1 0) 0) 0)
         at (inl t) =
             let u = any_some (2 ^ m) _ t in
-            let isp = and_left (is_product m s u.0 p) (has (subset_sum m f u.0) b) u.2 in
-            let isb = and_right (is_product m s u.0 p) (has (subset_sum m f u.0) b) u.2 in
+            let isp = (and_parts (is_product m s u.0 p) (has (subset_sum m f u.0) b) u.2).0 in
+            let isb = (and_parts (is_product m s u.0 p) (has (subset_sum m f u.0) b) u.2).1 in
             xor_below_one s (place (chosen m s p)) _ (product_component m s place o u.0 p u.1 isp (term_small u.0 u.1 isb))
             (λ c l ne. ap (λ (x : Bool). pick (subset p σ) (bit (expanded p && x)) 0) (ne_eqb (place (chosen m s p)) c (λ e. ne (sym e))) ∙ none (expanded p))
             ∙ ap₂ (λ (x y : Bool). pick (subset p σ) (bit (x && y)) 0) t (eq-eqb (place (chosen m s p)) (place (chosen m s p)) refl)
             ∙ sym (xor_below_one (2 ^ m) u.0 _ u.1
-            (λ v l ne. other v (λ e. ne (product_term m s v u.0 p l u.1 e isp)) (true_or_false (is_product m s v p)))
+            (λ v l ne. other v (λ e. ne (product_term m s v u.0 p l u.1 e isp)) (cases_Bool (is_product m s v p)))
             ∙ ap₂ (λ (x y : Bool). pick x (pick y (pick (subset p σ) 1 0) 0) 0) isb isp)
           where
             none : (x : Bool) → pick {A = ℕ} (subset p σ) (bit (x && false)) 0 ≡ 0
@@ -152,7 +153,7 @@ component_value m s place t c b σ lc lb =
 pub direct_correct : (m s : ℕ) (place : ℕ → ℕ) → Outside s place → (t : List ℕ) → TableFits m t → degree m (entry t) < s
     → Correct m s (component m (direct_stage m s place t).lists) t
 direct_correct m s place o t fits low σ l =
-    bits_eq m _ _
+    same_from_bits_below m _ _
     (xor_below_lt s m (λ j. component m (direct_stage m s place t).lists j σ) (λ j k. share_lt m j (output (direct_stage m s place t).lists σ)))
     (fits.below (sum m s σ) (sum_lt m s σ))
     (λ b k. sym (xor_below_bit s b (λ j. component m (direct_stage m s place t).lists j σ))
@@ -176,7 +177,7 @@ unfolding stands
 stands_outside m s place o f c b p l e =
     unchosen m s p c l
     (o.outside (chosen m s p) (chosen_lt m s p) c l
-    (eqb-true _ _ (and_right (any (2 ^ m) (λ u. is_product m s u p && has (f u) b)) (eqb (place (chosen m s p)) c) e)))
+    (eqb-true _ _ (and_parts (any (2 ^ m) (λ u. is_product m s u p && has (f u) b)) (eqb (place (chosen m s p)) c) e).1))
 
 pub direct_ignores : (m s : ℕ) (place : ℕ → ℕ) → Outside s place → (t : List ℕ) (c : ℕ) → c < s
     → Ignores m s c (component m (direct_stage m s place t).lists c)

@@ -15,7 +15,7 @@ use Rattle.finite.specs.Sets.{has}
 use Rattle.finite.proofs.Testing.{pick_true, pick_false}
 use Rattle.design.specs.Limits.{greatest_terms, broken}
 use Rattle.design.proofs.Limits.{bounds}
-use Rattle.threshold.proofs.Sharing.{place_lt}
+use Rattle.sharing.proofs.Sharing.{place_lt}
 use Rattle.direct.specs.Direct.{direct_list}
 use Rattle.direct.specs.Inside.Expanding.{joined, emitted, placed_in, inserted_all}
 use Rattle.direct.proofs.Emitting.{inserted_one, inserted_none, ending_here, ending_other, emitted_end, onward, variable_lt, fewer, emitted_each, joined_within, joined_turn, joined_zero}

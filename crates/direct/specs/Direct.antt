@@ -6,9 +6,10 @@ use Rattle.anf.specs.NormalForm.{subset_sum}
 use Rattle.anf.specs.Terms.{passing}
 use Rattle.anf.specs.Tables.{entry, Permutation}
 use Rattle.design.specs.Limits.{least_shares, greatest_shares, broken}
-use Rattle.design.specs.Design.{Stage, Design, TableFits}
-use Rattle.threshold.specs.Sharing.{share}
-use Rattle.threshold.specs.Stages.{Correct, NonComplete}
+use Rattle.records.specs.Design.{Stage, Design}
+use Rattle.anf.specs.Tables.{TableFits}
+use Rattle.sharing.specs.Sharing.{share}
+use Rattle.sharing.specs.Stages.{Correct, NonComplete}
 
 -- p is a product of the term u: a share is chosen for each variable of u, and p names that share's bit of it and no other
 unfoldable pub is_product : ℕ → ℕ → ℕ → ℕ → Bool

@@ -4,8 +4,8 @@ ghost use Rattle.anf.specs.Terms.{before};
 ghost use Rattle.design.specs.Limits.{greatest_terms};
 ghost use Rattle.direct.specs.Inside.Expanding.{placed_in};
 
+use anf::stands_before;
 use design::GREATEST_TERMS;
-use records::stands_before;
 use std::marker::Model;
 
 // Where the first term is that the term t stands before.

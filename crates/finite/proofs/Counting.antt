@@ -43,37 +43,16 @@ total_one (suc n) f k l h =
     (λ e. omega (arith, ap f e, total_zero n f (λ i b. h i (le_step b) (λ q. omega arith))))
     (λ b. omega (arith, h n (le_refl (suc n)) (λ q. omega arith), total_one n f k b (λ i c. h i (le_step c))))
 
--- n numbers, each at most 1, that make n are each 1
-pub total_le : (n : ℕ) (f : ℕ → ℕ) → ((i : ℕ) → i < n → f i ≤ 1) → total n f ≤ n
+-- numbers that are each at most another's, and make as much, are the other's
+pub total_same : (n : ℕ) (f g : ℕ → ℕ) → ((i : ℕ) → i < n → f i ≤ g i) → total n f ≡ total n g → (k : ℕ) → k < n → f k ≡ g k
 unfolding total
-total_le zero f h = zero-le
-total_le (suc n) f h = omega (arith, h n (le_refl (suc n)), total_le n f (λ i l. h i (le_step l)))
-
-pub total_full : (n : ℕ) (f : ℕ → ℕ) → ((i : ℕ) → i < n → f i ≤ 1) → total n f ≡ n → (k : ℕ) → k < n → f k ≡ 1
-unfolding total
-total_full zero f h e k l = absurd (not-suc-le-zero l)
-total_full (suc n) f h e k l =
-    let b = total_le n f (λ i c. h i (le_step c)) in
+total_same zero f g h e k l = absurd (not-suc-le-zero l)
+total_same (suc n) f g h e k l =
+    let b = total_mono n f g (λ i c. h i (le_step c)) in
     let t = h n (le_refl (suc n)) in
     below l
-    (λ q. ap f q ∙ omega arith)
-    (λ c. total_full n f (λ i d. h i (le_step d)) (omega arith) k c)
-
--- and so are n numbers, each at least 1
-pub total_ge : (n : ℕ) (f : ℕ → ℕ) → ((i : ℕ) → i < n → 1 ≤ f i) → n ≤ total n f
-unfolding total
-total_ge zero f h = zero-le
-total_ge (suc n) f h = omega (arith, h n (le_refl (suc n)), total_ge n f (λ i l. h i (le_step l)))
-
-pub total_tight : (n : ℕ) (f : ℕ → ℕ) → ((i : ℕ) → i < n → 1 ≤ f i) → total n f ≡ n → (k : ℕ) → k < n → f k ≡ 1
-unfolding total
-total_tight zero f h e k l = absurd (not-suc-le-zero l)
-total_tight (suc n) f h e k l =
-    let b = total_ge n f (λ i c. h i (le_step c)) in
-    let t = h n (le_refl (suc n)) in
-    below l
-    (λ q. ap f q ∙ omega arith)
-    (λ c. total_tight n f (λ i d. h i (le_step d)) (omega arith) k c)
+    (λ q. ap f q ∙ (let r : f n ≡ g n = omega arith in r) ∙ sym (ap g q))
+    (λ c. total_same n f g (λ i d. h i (le_step d)) (omega arith) k c)
 
 pub total_range : (n k : ℕ) (f : ℕ → ℕ) → total (n + k) f ≡ total n f + total k (λ i. f (n + i))
 unfolding total
@@ -105,6 +84,9 @@ pub total_const : (n c : ℕ) → total n (λ i. c) ≡ n * c
 unfolding total
 total_const zero c = sym (zero-mul c)
 total_const (suc n) c = omega (arith, total_const n c, suc-mul n c)
+
+pub count_true : (n : ℕ) → count n (λ i. true) ≡ n
+count_true n = total_const n 1 ∙ mul-one n
 
 -- ---- counts. A test's answer is an equation, `p i ≡ true`.
 
@@ -201,7 +183,7 @@ module _ (n : ℕ) (f : ℕ → ℕ) (inj : Injective n f) where
 
   -- and where its values are below n too, it takes each of them exactly once
   pub pigeonhole : ((i : ℕ) → i < n → f i < n) → (y : ℕ) → y < n → count n (λ i. eqb (f i) y) ≡ 1
-  pigeonhole into = total_full n _ (λ y l. at_most_once y) (by_value n n f into)
+  pigeonhole into = total_same n _ (λ y. 1) (λ y l. at_most_once y) (by_value n n f into ∙ sym (count_true n))
 
   pub onto : ((i : ℕ) → i < n → f i < n) → (y : ℕ) → y < n → (k : ℕ) × (k < n) × (f k ≡ y)
   onto into y l =
@@ -211,7 +193,7 @@ module _ (n : ℕ) (f : ℕ → ℕ) (inj : Injective n f) where
 -- a map of the numbers below n into themselves that takes each value takes it exactly once
 pub onto_once : (n : ℕ) (f : ℕ → ℕ) → ((i : ℕ) → i < n → f i < n) → ((y : ℕ) → y < n → 1 ≤ count n (λ i. eqb (f i) y))
     → (y : ℕ) → y < n → count n (λ i. eqb (f i) y) ≡ 1
-onto_once n f into some = total_tight n (λ y. count n (λ i. eqb (f i) y)) some (by_value n n f into)
+onto_once n f into some y l = sym (total_same n (λ y. 1) (λ y. count n (λ i. eqb (f i) y)) some (count_true n ∙ sym (by_value n n f into)) y l)
 
 -- the places that pass a, counted by what d makes of them
 pub by_part : (n k : ℕ) (a : ℕ → Bool) (d : ℕ → ℕ) (p : ℕ → Bool) → ((i : ℕ) → i < n → d i < k)
@@ -247,10 +229,6 @@ pub by_part_once : (n k : ℕ) (a : ℕ → Bool) (d : ℕ → ℕ) (p : ℕ →
     → ((q : ℕ) → q < k → count n (λ i. a i && eqb (d i) q) ≡ 1) → count n (λ i. a i && p (d i)) ≡ count k p
 by_part_once n k a d p h o =
     by_part n k a d p h ∙ total_congr k _ _ (λ q l. ap (λ (x : ℕ). bit (p q) * x) (o q l) ∙ mul-one (bit (p q)))
-
--- a count is kept when its places are renamed one to one
-pub count_renamed : (n : ℕ) (f : ℕ → ℕ) → Injective n f → ((i : ℕ) → i < n → f i < n) → (p : ℕ → Bool) → count n (λ i. p (f i)) ≡ count n p
-count_renamed n f inj into p = by_part_once n n (λ i. true) f p into (pigeonhole n f inj into)
 
 -- what passes one of several tests, counted test by test
 pub count_any : (n k : ℕ) (q : ℕ → ℕ → Bool) → count n (λ p. any k (λ u. q u p)) ≤ total k (λ u. count n (q u))

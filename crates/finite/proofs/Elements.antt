@@ -2,20 +2,21 @@
 use mathlib.Core.Path.{◌≡◌, refl, sym, ap, ap₂, ◌∙◌}
 use mathlib.Core.Logic.{⊎_elim, ◌≢◌}
 use mathlib.Core.Bool.{Bool, true, false, not, ◌&&◌, ◌||◌}
-use Prim.Native.Nat.{ℕ, zero, suc, ◌+◌, ◌-◌, ◌*◌, ◌/◌, ◌%◌, ◌^◌, ◌<◌}
-use native.Mathlib.Nat.{mod-lt, div-one, mul_comm, pow-suc, div-div-eq-div-mul, mod-eq_of_lt, zero-div, div-lt_iff_lt-mul, div-eq_of_lt, suc-mul, mul_assoc, add-mul}
+use Prim.Native.Nat.{ℕ, zero, suc, ◌+◌, ◌-◌, ◌*◌, ◌/◌, ◌%◌, ◌^◌, ◌<◌, max}
+use native.Mathlib.Nat.{mod-lt, mod-eq_of_lt, div-lt_iff_lt-mul, div-eq_of_lt}
 use native.Mathlib.Omega.{arith}
 use lib.Arith.{lt-one}
-use lib.Pow.{pow_pos, field, high, low, split, mod-mod-pow, pow-lt, pow-add, shl-shr}
+use lib.Pow.{pow_pos, high, low, split}
 use lib.Dec.{eqb}
-use lib.Bits.{bit_and, bit_xor, and_mod, and_block, bit_or, or_shr, or_mod, xor_mod, xor_self, xor_zero_r}
+use lib.Bits.{bit_and, bit_xor, and_mod, and_block, bit_or, xor_mod, xor_self, xor_zero_r}
 use lib.Count.{ones, ones_cat}
 use borrow.Author.Tests.{eqb-true, eq-eqb}
-use native.Mathlib.Decide.{dec_lt}
+use Rattle.std.proofs.lemmas.Nat.Bits.{same_from_bits_below, bit_at-zero, bit_at_cat_low, bit_at_ones, bit_at_or, bit_at-pow_same, bit_at-pow_other}
 use Rattle.finite.specs.Tests.{implies, all, any, bit, count, total, pick}
 use Rattle.finite.specs.Sets.{subset, has}
-use Rattle.finite.proofs.Testing.{bool_ext, true_or_false, and_intro, and_left, and_right, implies_at, implies_intro, all_at, all_intro, any_none, below, or_right, or_false_right}
-use Rattle.finite.proofs.Xor.{bit_cases, digits_eq, xor_bit, and_bit}
+use Rattle.finite.proofs.Testing.{bool_ext, implies_at, implies_intro, all_at, all_intro, any_none, below, or_false_right}
+use Rattle.std.proofs.lemmas.Bool.{cases_Bool, and_from, and_parts, or_right}
+use Rattle.finite.proofs.Xor.{bit_cases, xor_bit, and_bit}
 use Rattle.finite.proofs.Subsets.{subset_eq, eq_subset, subset_iff}
 
 -- ---- bits
@@ -39,31 +40,16 @@ has_congr x y i k e = ap (λ (r : ℕ). eqb r 1) e
 
 pub has_none : (i : ℕ) → has 0 i ≡ false
 unfolding has
-has_none i = ap (λ (r : ℕ). eqb (r % 2) 1) (zero-div (2 ^ i))
+has_none i = ap (λ (r : ℕ). eqb r 1) (bit_at-zero i)
 
-half_lt : (n a : ℕ) → a < 2 ^ suc n → a / 2 < 2 ^ n
-half_lt n a h = omega arith
-
-half_bit : (a i : ℕ) → a / 2 / 2 ^ i ≡ a / 2 ^ suc i
-half_bit a i = div-div-eq-div-mul a 2 (2 ^ i) ∙ ap (λ (x : ℕ). a / x) (mul_comm 2 (2 ^ i) ∙ sym (pow-suc 2 i))
-
--- numbers of n bits that have the same bits are equal
-pub bits_eq : (n a b : ℕ) → a < 2 ^ n → b < 2 ^ n → ((i : ℕ) → i < n → a / 2 ^ i % 2 ≡ b / 2 ^ i % 2) → a ≡ b
-bits_eq zero a b la lb h = lt-one la ∙ sym (lt-one lb)
-bits_eq (suc n) a b la lb h =
-    digits_eq a b
-    (bits_eq n (a / 2) (b / 2) (half_lt n a la) (half_lt n b lb)
-    (λ i l. ap (λ (x : ℕ). x % 2) (half_bit a i) ∙ h (suc i) (omega arith) ∙ ap (λ (x : ℕ). x % 2) (sym (half_bit b i))))
-    (ap (λ (x : ℕ). x % 2) (sym (div-one a)) ∙ h 0 (omega arith) ∙ ap (λ (x : ℕ). x % 2) (div-one b))
-
--- so are sets with the same elements
+-- sets with the same elements are equal
 pub sets-eq : (n a b : ℕ) → a < 2 ^ n → b < 2 ^ n → ((i : ℕ) → i < n → has a i ≡ has b i) → a ≡ b
-sets-eq n a b la lb h = bits_eq n a b la lb (λ i l. sym (has_is a i) ∙ ap bit (h i l) ∙ has_is b i)
+sets-eq n a b la lb h = same_from_bits_below n a b la lb (λ i l. sym (has_is a i) ∙ ap bit (h i l) ∙ has_is b i)
 
 -- a set that is not empty has an element
 pub some_element : (n a : ℕ) → a < 2 ^ n → a ≢ 0 → any n (has a) ≡ true
 some_element n a l ne =
-    ⊎_elim (λ t. t) (λ f. absurd (ne (sets-eq n a 0 l (pow_pos n) (λ i k. any_none n (has a) f i k ∙ sym (has_none i))))) (true_or_false (any n (has a)))
+    ⊎_elim (λ t. t) (λ f. absurd (ne (sets-eq n a 0 l (pow_pos n) (λ i k. any_none n (has a) f i k ∙ sym (has_none i))))) (cases_Bool (any n (has a)))
 
 -- ---- xor and subsets
 
@@ -90,7 +76,7 @@ pub subset_all : (n t u : ℕ) → t < 2 ^ n → subset t u ≡ all n (λ i. imp
 subset_all n t u l =
     bool_ext _ _
     (λ e. all_intro n _ (λ i k. implies_intro (has t i) (has u i) (subset_has t u i e)))
-    (λ e. eq_subset t u (bits_eq n (bit_and t u) t (and_le e) l (λ i k. and_bit t u i ∙ at i (implies_at (has t i) (has u i) (all_at n _ e i k)))))
+    (λ e. eq_subset t u (same_from_bits_below n (bit_and t u) t (and_le e) l (λ i k. and_bit t u i ∙ at i (implies_at (has t i) (has u i) (all_at n _ e i k)))))
   where
     and_le : {A : Type 0} → A → bit_and t u < 2 ^ n
     and_le a = omega (arith, lib.Bits.and_le_l t u)
@@ -113,11 +99,11 @@ pub subset_split : (k a r x : ℕ) → r < 2 ^ k → subset (a * 2 ^ k + r) x �
 subset_split k a r x l =
     bool_ext _ _
     (λ e. let z = sym whole ∙ subset_eq (a * 2 ^ k + r) x e in
-    and_intro
+    and_from _ _
     (eq_subset a (x / 2 ^ k) (sym (high _ k (and_lt' r)) ∙ ap (λ (y : ℕ). y / 2 ^ k) z ∙ high a k l))
     (sym (subset_low k r x l) ∙ eq_subset r (x % 2 ^ k) (sym (low _ k (and_lt' r)) ∙ ap (λ (y : ℕ). y % 2 ^ k) z ∙ low a k l)))
     (λ e. eq_subset (a * 2 ^ k + r) x
-    (whole ∙ ap₂ (λ (y z : ℕ). y * 2 ^ k + z) (subset_eq a (x / 2 ^ k) (and_left _ _ e)) (subset_eq r (x % 2 ^ k) (subset_low k r x l ∙ and_right (subset a (x / 2 ^ k)) _ e))))
+    (whole ∙ ap₂ (λ (y z : ℕ). y * 2 ^ k + z) (subset_eq a (x / 2 ^ k) (and_parts _ _ e).0) (subset_eq r (x % 2 ^ k) (subset_low k r x l ∙ (and_parts (subset a (x / 2 ^ k)) _ e).1))))
   where
     and_lt' : (r : ℕ) → bit_and r (x % 2 ^ k) < 2 ^ k
     and_lt' r = omega (arith, lib.Bits.and_le_r r (x % 2 ^ k), mod-lt x (pow_pos k))
@@ -126,15 +112,8 @@ subset_split k a r x l =
     whole = ap (bit_and (a * 2 ^ k + r)) (sym (split x k)) ∙ and_block k a (x / 2 ^ k) r (x % 2 ^ k) l (mod-lt x (pow_pos k))
 
 -- a low bit does not see the block above it
-pub has_low : (k a r i : ℕ) → r < 2 ^ k → i < k → has (a * 2 ^ k + r) i ≡ has r i
-has_low k a r i l h =
-    has_congr (a * 2 ^ k + r) r i i (bit_low (a * 2 ^ k + r) ∙ ap (λ (x : ℕ). x / 2 ^ i % 2) (low a k l))
-  where
-    bit_low : (x : ℕ) → x / 2 ^ i % 2 ≡ x % 2 ^ k / 2 ^ i % 2
-    bit_low x =
-        let d : k ≡ k - suc i + 1 + i = omega arith in
-        sym (ap (λ (y : ℕ). x % 2 ^ y / 2 ^ i % 2) d ∙ ap (λ (y : ℕ). y % 2) (field x (k - suc i + 1) i)
-        ∙ mod-mod-pow (x / 2 ^ i) (k - suc i) 1)
+pub has_low : (k a r i : ℕ) → i < k → has (a * 2 ^ k + r) i ≡ has r i
+has_low k a r i h = has_congr (a * 2 ^ k + r) r i i (bit_at_cat_low a k r i h)
 
 -- the bit above a block of low bits is there where the number of the block is odd
 pub has_odd : (k a r : ℕ) → r < 2 ^ k → has ((2 * a + 1) * 2 ^ k + r) k ≡ true
@@ -144,30 +123,9 @@ pub has_even : (k a r : ℕ) → r < 2 ^ k → has (2 * a * 2 ^ k + r) k ≡ fal
 unfolding has
 has_even k a r l = let e : 2 * a % 2 ≡ 0 = omega arith in ap (λ (x : ℕ). eqb (x % 2) 1) (high (2 * a) k l) ∙ ap (λ (x : ℕ). eqb x 1) e
 
--- the set of all elements below s: those above c, c, and those below
+-- the set of all elements below s
 pub has_all : (s c : ℕ) → c < s → has (2 ^ s - 1) c ≡ true
-has_all s c l = ap (λ (x : ℕ). has x c) (parts (2 ^ (s - suc c)) (pow_pos (s - suc c)) whole) ∙ has_odd c (2 ^ (s - suc c) - 1) (2 ^ c - 1) (omega (arith, pow_pos c))
-  where
-    whole : 2 ^ s ≡ 2 ^ (s - suc c) * 2 ^ suc c
-    whole = let e : s ≡ s - suc c + suc c = omega arith in ap (λ (x : ℕ). 2 ^ x) e ∙ pow-add 2 (s - suc c) (suc c)
-
-    less : (b : ℕ) → suc b - 1 ≡ b
-    less b = omega arith
-
-    parts : (a : ℕ) → 0 < a → 2 ^ s ≡ a * 2 ^ suc c → 2 ^ s - 1 ≡ (2 * (a - 1) + 1) * 2 ^ c + (2 ^ c - 1)
-    parts zero h e = absurd (omega arith)
-    parts (suc b) h e =
-        omega (
-          arith,
-          e,
-          pow_pos c,
-          suc-mul b (2 ^ suc c),
-          ap (λ (x : ℕ). b * x) (pow-suc 2 c) ∙ sym (mul_assoc b (2 ^ c) 2),
-          pow-suc 2 c,
-          ap (λ (x : ℕ). (2 * x + 1) * 2 ^ c) (less b),
-          add-mul (2 * b) 1 (2 ^ c),
-          mul_assoc 2 b (2 ^ c),
-        )
+has_all s c l = bit_has (2 ^ s - 1) c (bit_at_ones s c l)
 
 -- a set has no element beyond its bits
 pub has_beyond : (x k : ℕ) → x < 2 ^ k → has x k ≡ false
@@ -176,39 +134,21 @@ has_beyond x k l = ap (λ (r : ℕ). eqb (r % 2) 1) (div-eq_of_lt l)
 
 -- ---- one element more
 
-or_bit : (a b i : ℕ) → bit_or a b / 2 ^ i % 2 ≡ bit_or (a / 2 ^ i % 2) (b / 2 ^ i % 2)
-or_bit a b i = ap (λ (x : ℕ). x % 2) (or_shr a b i) ∙ or_mod (a / 2 ^ i) (b / 2 ^ i) 1
-
 pub has_or : (a b i : ℕ) → has (bit_or a b) i ≡ (has a i || has b i)
 unfolding has
 has_or a b i =
-    ap (λ (r : ℕ). eqb r 1) (or_bit a b i)
-    ∙ bit_cases (λ x. eqb (bit_or x (b / 2 ^ i % 2)) 1 ≡ (eqb x 1 || eqb (b / 2 ^ i % 2) 1))
-    (bit_cases (λ y. eqb (bit_or 0 y) 1 ≡ eqb y 1) refl refl (b / 2 ^ i))
-    (bit_cases (λ y. eqb (bit_or 1 y) 1 ≡ true) refl refl (b / 2 ^ i))
+    ap (λ (r : ℕ). eqb r 1) (bit_at_or a b i)
+    ∙ bit_cases (λ x. eqb (max x (b / 2 ^ i % 2)) 1 ≡ (eqb x 1 || eqb (b / 2 ^ i % 2) 1))
+    (bit_cases (λ y. eqb (max 0 y) 1 ≡ eqb y 1) refl refl (b / 2 ^ i))
+    (bit_cases (λ y. eqb (max 1 y) 1 ≡ true) refl refl (b / 2 ^ i))
     (a / 2 ^ i)
 
 pub has_power : (k : ℕ) → has (2 ^ k) k ≡ true
-unfolding has
-has_power k =
-    let e : 2 ^ k ≡ 1 * 2 ^ k + 0 = omega arith in
-    ap (λ (x : ℕ). eqb (x / 2 ^ k % 2) 1) e ∙ ap (λ (x : ℕ). eqb (x % 2) 1) (high 1 k (pow_pos k))
+has_power k = bit_has (2 ^ k) k (bit_at-pow_same k)
 
 pub has_power_other : (k i : ℕ) → i ≢ k → has (2 ^ k) i ≡ false
 unfolding has
-has_power_other k i n = go (dec_lt k i)
-  where
-    go : Dec (k < i) → eqb (2 ^ k / 2 ^ i % 2) 1 ≡ false
-    go (yes l) = ap (λ (x : ℕ). eqb (x % 2) 1) (div-eq_of_lt (pow-lt l))
-    go (no l) =
-        let d : k ≡ suc (k - suc i) + i = omega arith in
-        ap (λ (x : ℕ). eqb (2 ^ x / 2 ^ i % 2) 1) d
-        ∙ ap (λ (x : ℕ). eqb (x / 2 ^ i % 2) 1) (pow-add 2 (suc (k - suc i)) i)
-        ∙ ap (λ (x : ℕ). eqb (x % 2) 1) (shl-shr (2 ^ suc (k - suc i)) i)
-        ∙ ap (λ (x : ℕ). eqb x 1) (even (k - suc i))
-      where
-        even : (e : ℕ) → 2 ^ suc e % 2 ≡ 0
-        even e = omega arith
+has_power_other k i n = ap (λ (r : ℕ). eqb r 1) (bit_at-pow_other k i n)
 
 module _ (p k : ℕ) where
   pub has_with : has (bit_or p (2 ^ k)) k ≡ true
@@ -238,7 +178,7 @@ module _ (q : ℕ → Bool) where
   made_has (suc n) j l =
       below l
       (λ e. ap (has (bit (q n) * 2 ^ n + made n)) e ∙ top_bit (q n) ∙ ap q (sym e))
-      (λ k. has_low n (bit (q n)) (made n) j (made_lt n) k ∙ made_has n j k)
+      (λ k. has_low n (bit (q n)) (made n) j k ∙ made_has n j k)
     where
       top_bit : (b : Bool) → has (bit b * 2 ^ n + made n) n ≡ b
       top_bit b = unfold has in ap (λ (x : ℕ). eqb (x % 2) 1) (high (bit b) n (made_lt n)) ∙ at b
@@ -270,7 +210,7 @@ ones_count (suc n) u l =
     low_count : count n (has (u % 2 ^ n)) ≡ count n (has u)
     low_count =
         Rattle.finite.proofs.Counting.count_congr n (has (u % 2 ^ n)) (has u)
-        (λ i k. sym (has_low n (u / 2 ^ n) (u % 2 ^ n) i (mod-lt u (pow_pos n)) k) ∙ ap (λ (x : ℕ). has x i) (split u n))
+        (λ i k. sym (has_low n (u / 2 ^ n) (u % 2 ^ n) i k) ∙ ap (λ (x : ℕ). has x i) (split u n))
 
 -- ---- the lowest and the highest element
 

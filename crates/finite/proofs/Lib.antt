@@ -1,6 +1,7 @@
 -- Laws of tests, counts, sums, sets, maps and faults.
 pub mod Testing
 pub mod Counting
+pub mod Parts
 pub mod Maps
 pub mod Xor
 pub mod Sums

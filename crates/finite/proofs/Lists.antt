@@ -1,35 +1,27 @@
 -- The tests that iterators make of a list, as tests over the numbers below its length: the i-th element of xs is `get_or xs i d`.
 use mathlib.Core.Path.{◌≡◌, refl, sym, ap, ap₂, ◌∙◌}
-use mathlib.Core.Bool.{Bool, true, false, ◌&&◌, ◌||◌}
+use mathlib.Core.Bool.{Bool, ◌&&◌, ◌||◌}
 use mathlib.Core.List.{List, [], ◌∷◌}
 use Prim.Native.Nat.{ℕ, zero, suc, ◌+◌, ◌≤◌}
 use native.Mathlib.Omega.{arith}
 use lib.ListN.{length, get_or, take}
 use lib.Seq.{get_or-take}
 use Rattle.std.specs.List.{list_all, list_any, enumerate_from, range_with_len}
-use Rattle.std.proofs.Math.Bool.{and_assoc, or_assoc}
+use Rattle.std.proofs.Math.Bool.{and-true, or-false, and_assoc, or_assoc}
 use Rattle.std.proofs.lemmas.List.{length-take-le}
 use Rattle.std.proofs.lemmas.List.FromFn.{length-enumerate_from, get_or-enumerate_from}
 use Rattle.finite.specs.Tests.{all, any}
 use Rattle.finite.proofs.Testing.{all_congr, any_congr}
 
-and_true : (b : Bool) → b ≡ (b && true)
-and_true true = refl
-and_true false = refl
-
-or_none : (b : Bool) → b ≡ (b || false)
-or_none true = refl
-or_none false = refl
-
 -- the first number apart, as a list has its first element apart
 pub all_first : (n : ℕ) (p : ℕ → Bool) → all (suc n) p ≡ (p 0 && all n (λ i. p (suc i)))
 unfolding all
-all_first zero p = and_true (p 0)
+all_first zero p = sym (and-true (p 0))
 all_first (suc n) p = ap (λ (b : Bool). b && p (suc n)) (all_first n p) ∙ and_assoc (p 0) (all n (λ i. p (suc i))) (p (suc n))
 
 any_first : (n : ℕ) (p : ℕ → Bool) → any (suc n) p ≡ (p 0 || any n (λ i. p (suc i)))
 unfolding any
-any_first zero p = or_none (p 0)
+any_first zero p = sym (or-false (p 0))
 any_first (suc n) p = ap (λ (b : Bool). b || p (suc n)) (any_first n p) ∙ or_assoc (p 0) (any n (λ i. p (suc i))) (p (suc n))
 
 module _ {A : Type 0} (d : A) where

@@ -7,7 +7,8 @@ use native.Mathlib.Omega.{arith}
 use lib.Dec.{eqb}
 use borrow.Author.Tests.{eqb-true, eq-eqb}
 use Rattle.finite.specs.Maps.{Injective, met_before, repeats}
-use Rattle.finite.proofs.Testing.{any_at, any_some, not_true_false, clash}
+use Rattle.finite.proofs.Testing.{any_at, any_some, clash}
+use Rattle.std.proofs.lemmas.Bool.{false_from_ne_true}
 
 -- one injective map after another
 pub injective_then : (N : ℕ) (h h' : ℕ → ℕ) → ((x : ℕ) → x < N → h x < N) → Injective N h → Injective N h' → Injective N (λ x. h' (h x))
@@ -38,7 +39,7 @@ module _ (n : ℕ) (f : ℕ → ℕ) where
 
   pub injective→repeats : Injective n f → repeats n f ≡ false
   injective→repeats inj =
-      not_true_false (repeats n f)
+      false_from_ne_true (repeats n f)
       (λ h. let w = repeats_equal h in let e = inj w.1 w.0 (omega (arith, w.2, w.3)) w.3 w.4 in omega (arith, w.2, e))
 
   pub repeats_clash : repeats n f ≡ true → Injective n f → ⊥

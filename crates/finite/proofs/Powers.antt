@@ -9,7 +9,8 @@ use lib.Bits.{bit_or, or_lt, or_add_and, and_le_l, and_le_r}
 use lib.Dec.{eqb, ltb}
 use lib.Pow.{pow-add}
 use Rattle.std.proofs.lemmas.Nat.{pow_pos}
-use Rattle.finite.proofs.Testing.{bool_ext, and_intro, and_left, and_right}
+use Rattle.finite.proofs.Testing.{bool_ext}
+use Rattle.std.proofs.lemmas.Bool.{and_from, and_parts}
 
 -- from 2^3 on, a multiple of 8
 pub eights : (e : ℕ) → 3 ≤ e → 2 ^ e % 8 ≡ 0
@@ -32,7 +33,7 @@ union_below n x y = bool_ext _ _ parts whole
     parts e =
         let l : x < 2 ^ n = omega (arith, or_add_and x y, and_le_r x y, ltb-true _ _ e) in
         let r : y < 2 ^ n = omega (arith, or_add_and x y, and_le_l x y, ltb-true _ _ e) in
-        and_intro (lt-ltb _ _ l) (lt-ltb _ _ r)
+        and_from _ _ (lt-ltb _ _ l) (lt-ltb _ _ r)
 
     whole : (ltb x (2 ^ n) && ltb y (2 ^ n)) ≡ true → ltb (bit_or x y) (2 ^ n) ≡ true
-    whole e = lt-ltb _ _ (or_lt n x y (ltb-true _ _ (and_left (ltb x (2 ^ n)) (ltb y (2 ^ n)) e)) (ltb-true _ _ (and_right (ltb x (2 ^ n)) (ltb y (2 ^ n)) e)))
+    whole e = lt-ltb _ _ (or_lt n x y (ltb-true _ _ (and_parts (ltb x (2 ^ n)) (ltb y (2 ^ n)) e).0) (ltb-true _ _ (and_parts (ltb x (2 ^ n)) (ltb y (2 ^ n)) e).1))

@@ -9,7 +9,7 @@ use native.Mathlib.Omega.{arith}
 use lib.Bits.{bit_and, bit_xor, and_block, xor_block, and_self, and_le_r}
 use borrow.Author.Tests.{eqb-true, eqb-false, eq-eqb, ne_eqb}
 use Rattle.finite.specs.Sets.{subset}
-use Rattle.finite.proofs.Xor.{and_assoc}
+use Rattle.std.proofs.lemmas.Nat.{and_assoc}
 
 pub subset_eq : (v u : ℕ) → subset v u ≡ true → bit_and v u ≡ v
 unfolding subset
@@ -40,7 +40,7 @@ subset_gt v u h = ne_subset v u (λ e. omega (arith, and_le_r v u))
 pub subset_trans : (v u w : ℕ) → subset v u ≡ true → subset u w ≡ true → subset v w ≡ true
 subset_trans v u w p q =
     let e = subset_eq v u p in
-    eq_subset v w (ap (λ (x : ℕ). bit_and x w) (sym e) ∙ and_assoc v u w ∙ ap (bit_and v) (subset_eq u w q) ∙ e)
+    eq_subset v w (ap (λ (x : ℕ). bit_and x w) (sym e) ∙ and_assoc w v u ∙ ap (bit_and v) (subset_eq u w q) ∙ e)
 
 -- two tests agree when the equations do
 pub subset_iff : (v u v' u' : ℕ) → (bit_and v u ≡ v → bit_and v' u' ≡ v') → (bit_and v' u' ≡ v' → bit_and v u ≡ v) → subset v u ≡ subset v' u'

@@ -9,7 +9,8 @@ use lib.Pow.{pow_pos}
 use lib.Bits.{bit_xor, xor_zero_r, xor_lt}
 use Rattle.finite.specs.Tests.{pick}
 use Rattle.finite.specs.Sums.{xor_below}
-use Rattle.finite.proofs.Xor.{xor_swap4, xor_assoc, xor_bit}
+use Rattle.finite.proofs.Xor.{xor_swap4, xor_bit}
+use Rattle.std.specs.Int.Bits.{xor_assoc}
 
 pub xor_below_ext : (n : ℕ) (f g : ℕ → ℕ) → ((i : ℕ) → i < n → f i ≡ g i) → xor_below n f ≡ xor_below n g
 unfolding xor_below

@@ -1,7 +1,7 @@
 -- Laws of the tests over numbers below n, of the lowest that passes, and of tabulated lists.
 -- Assumes nothing.
 use mathlib.Core.Path.{◌≡◌, refl, sym, ap, ap₂, ◌∙◌}
-use mathlib.Core.Logic.{◌≢◌, ◌⊎◌, inl, inr, ⊎_elim}
+use mathlib.Core.Logic.{◌⊎◌, inl, inr, ⊎_elim}
 use mathlib.Core.Bool.{Bool, true, false, ◌&&◌, ◌||◌, true≢false, false≢true, not}
 use mathlib.Core.List.{List, [], ◌∷◌, ◌++◌, map, append_assoc, append-nil}
 use Prim.Native.Nat.{ℕ, zero, suc, ◌+◌, ◌≤◌, ◌<◌}
@@ -9,9 +9,11 @@ use native.Mathlib.Nat.{add-zero, le_of_suc-le-suc, not-suc-le-zero, le_refl, le
 use native.Mathlib.Numerals.{add-one}
 use native.Mathlib.Omega.{arith}
 use lib.Dec.{eqb, ltb}
-use borrow.Author.Tests.{eqb-true, eqb-false, lt-ltb, le-ltb, ltb-true, ltb-false}
+use borrow.Author.Tests.{eqb-true}
 use lib.ListN.{length, get_or, drop, set, length-map, get_or-map}
 use lib.Seq.{set_at, drop-cons, ext_get_or}
+use Rattle.std.proofs.lemmas.Bool.{cases_Bool, false_from_ne_true, and_from, and_parts, or_left, or_right, or_parts, or_from, or_cases}
+use Rattle.std.proofs.lemmas.Bool.Decides.{nat_tests}
 use Rattle.finite.specs.Tests.{pick, implies, all, any, first, tried, tabulate}
 
 -- ---- Bool
@@ -19,14 +21,6 @@ use Rattle.finite.specs.Tests.{pick, implies, all, any, first, tried, tabulate}
 pub true_or_not : (b : Bool) → (b ≡ true) ⊎ (b ≡ true → ⊥)
 true_or_not true = inl refl
 true_or_not false = inr (λ e. false≢true e)
-
-pub true_or_false : (b : Bool) → (b ≡ true) ⊎ (b ≡ false)
-true_or_false true = inl refl
-true_or_false false = inr refl
-
-pub not_true_false : (b : Bool) → (b ≡ true → ⊥) → b ≡ false
-not_true_false true h = absurd (h refl)
-not_true_false false h = refl
 
 pub clash : {b : Bool} → b ≡ true → b ≡ false → ⊥
 clash p q = true≢false (sym p ∙ q)
@@ -37,49 +31,15 @@ bool_ext true b f g = sym (f refl)
 bool_ext false true f g = g refl
 bool_ext false false f g = refl
 
-pub and_intro : {a b : Bool} → a ≡ true → b ≡ true → (a && b) ≡ true
-and_intro {a} {b} p q = ap₂ ◌&&◌ p q
-
-pub and_left : (a b : Bool) → (a && b) ≡ true → a ≡ true
-and_left true b e = refl
-and_left false b e = e
-
-pub and_right : (a b : Bool) → (a && b) ≡ true → b ≡ true
-and_right true b e = e
-and_right false b e = absurd (false≢true e)
-
-pub and_false_right : (a b : Bool) → b ≡ false → (a && b) ≡ false
-and_false_right true b e = e
-and_false_right false b e = refl
-
 pub and_pairs : (a b c d : Bool) → ((a && b) && (c && d)) ≡ ((a && c) && (b && d))
 and_pairs true true c d = refl
 and_pairs true false true d = refl
 and_pairs true false false d = refl
 and_pairs false b c d = refl
 
-pub or_left : (a b : Bool) → a ≡ true → (a || b) ≡ true
-or_left true b e = refl
-or_left false b e = absurd (false≢true e)
-
-pub or_right : (a b : Bool) → b ≡ true → (a || b) ≡ true
-or_right true b e = refl
-or_right false b e = e
-
 pub or_false_right : (a b : Bool) → b ≡ false → (a || b) ≡ a
 or_false_right true b e = refl
 or_false_right false b e = e
-
-pub or_false : (a b : Bool) → (a || b) ≡ false → (a ≡ false) × (b ≡ false)
-or_false true b e = absurd (true≢false e)
-or_false false b e = (refl, e)
-
-pub or_none : {a b : Bool} → a ≡ false → b ≡ false → (a || b) ≡ false
-or_none {a} {b} p q = ap₂ ◌||◌ p q
-
-pub or_cases : (a b : Bool) → (a || b) ≡ true → (a ≡ true) ⊎ (b ≡ true)
-or_cases true b e = inl refl
-or_cases false b e = inr e
 
 pub implies_at : (a b : Bool) → implies a b ≡ true → a ≡ true → b ≡ true
 implies_at true b e t = e
@@ -131,15 +91,15 @@ pub all_at : (n : ℕ) (p : ℕ → Bool) → all n p ≡ true → (i : ℕ) →
 unfolding all
 all_at zero p e i l = absurd (not-suc-le-zero l)
 all_at (suc n) p e i l =
-    below l (λ q. ap p q ∙ and_right (all n p) (p n) e) (λ b. all_at n p (and_left (all n p) (p n) e) i b)
+    below l (λ q. ap p q ∙ (and_parts (all n p) (p n) e).1) (λ b. all_at n p (and_parts (all n p) (p n) e).0 i b)
 
 pub all_intro : (n : ℕ) (p : ℕ → Bool) → ((i : ℕ) → i < n → p i ≡ true) → all n p ≡ true
 unfolding all
 all_intro zero p h = refl
-all_intro (suc n) p h = and_intro (all_intro n p (λ i l. h i (le_step l))) (h n (le_refl (suc n)))
+all_intro (suc n) p h = and_from _ _ (all_intro n p (λ i l. h i (le_step l))) (h n (le_refl (suc n)))
 
 pub all_fails : (n : ℕ) (p : ℕ → Bool) (i : ℕ) → i < n → p i ≡ false → all n p ≡ false
-all_fails n p i l e = not_true_false (all n p) (λ a. clash (all_at n p a i l) e)
+all_fails n p i l e = false_from_ne_true (all n p) (λ a. clash (all_at n p a i l) e)
 
 -- where a test fails, it fails somewhere first
 pub all_not : (n : ℕ) (p : ℕ → Bool) → all n p ≡ false → (i : ℕ) × (i < n) × (all i p ≡ true) × (p i ≡ false)
@@ -160,19 +120,11 @@ all_congr (suc n) p q h = ap₂ ◌&&◌ (all_congr n p q (λ i l. h i (le_step 
 pub all_and : (n : ℕ) (p q : ℕ → Bool) → all n (λ i. p i && q i) ≡ (all n p && all n q)
 all_and n p q =
     bool_ext _ _
-    (λ e. and_intro (all_intro n p (λ i l. and_left (p i) (q i) (all_at n _ e i l))) (all_intro n q (λ i l. and_right (p i) (q i) (all_at n _ e i l))))
-    (λ e. all_intro n _ (λ i l. and_intro (all_at n p (and_left (all n p) (all n q) e) i l) (all_at n q (and_right (all n p) (all n q) e) i l)))
+    (λ e. and_from _ _ (all_intro n p (λ i l. (and_parts (p i) (q i) (all_at n _ e i l)).0)) (all_intro n q (λ i l. (and_parts (p i) (q i) (all_at n _ e i l)).1)))
+    (λ e. all_intro n _ (λ i l. and_from _ _ (all_at n p (and_parts (all n p) (all n q) e).0 i l) (all_at n q (and_parts (all n p) (all n q) e).1 i l)))
 
 pub ltb_suc : (u n : ℕ) → ltb u (suc n) ≡ (ltb u n || eqb u n)
-ltb_suc u n = at (true_or_false (ltb u n)) (true_or_false (eqb u n))
-  where
-    at : (ltb u n ≡ true) ⊎ (ltb u n ≡ false) → (eqb u n ≡ true) ⊎ (eqb u n ≡ false) → ltb u (suc n) ≡ (ltb u n || eqb u n)
-    at (inl l) e = lt-ltb u (suc n) (omega (arith, ltb-true u n l)) ∙ sym (or_left (ltb u n) (eqb u n) l)
-    at (inr l) (inl e) = lt-ltb u (suc n) (omega (arith, eqb-true u n e)) ∙ sym (or_right (ltb u n) (eqb u n) e)
-    at (inr l) (inr e) = le-ltb u (suc n) (above (ltb-false u n l) (eqb-false u n e)) ∙ sym (or_none l e)
-      where
-        above : n ≤ u → u ≢ n → suc n ≤ u
-        above k d = omega (arith, d)
+ltb_suc u n = grind (arith, nat_tests)
 
 -- one more number, as code counts
 pub all_step : (n : ℕ) (p : ℕ → Bool) → all (n + 1) p ≡ (all n p && p n)
@@ -192,10 +144,10 @@ any_some (suc n) p e =
     ⊎_elim (λ a. let r = any_some n p a in (r.0, le_step r.1, r.2)) (λ h. (n, le_refl (suc n), h)) (or_cases (any n p) (p n) e)
 
 pub any_none : (n : ℕ) (p : ℕ → Bool) → any n p ≡ false → (i : ℕ) → i < n → p i ≡ false
-any_none n p e i l = not_true_false (p i) (λ h. clash (any_at n p i l h) e)
+any_none n p e i l = false_from_ne_true (p i) (λ h. clash (any_at n p i l h) e)
 
 pub none_any : (n : ℕ) (p : ℕ → Bool) → ((i : ℕ) → i < n → p i ≡ false) → any n p ≡ false
-none_any n p h = not_true_false (any n p) (λ e. let r = any_some n p e in clash r.2 (h r.0 r.1))
+none_any n p h = false_from_ne_true (any n p) (λ e. let r = any_some n p e in clash r.2 (h r.0 r.1))
 
 pub any_congr : (n : ℕ) (p q : ℕ → Bool) → ((i : ℕ) → i < n → p i ≡ q i) → any n p ≡ any n q
 unfolding any
@@ -207,7 +159,7 @@ unfolding any
 any_step n p = rw add-one refl
 
 pub any_none_more : (n : ℕ) (p : ℕ → Bool) → any n p ≡ false → p n ≡ false → any (n + 1) p ≡ false
-any_none_more n p a h = any_step n p ∙ or_none a h
+any_none_more n p a h = any_step n p ∙ or_from _ _ a h
 
 not_and : (a b : Bool) → not (a && b) ≡ (not a || not b)
 not_and true b = refl
@@ -232,7 +184,7 @@ first_found (suc n) p j l a h =
 pub first_none : (n : ℕ) (p : ℕ → Bool) → any n p ≡ false → first n p ≡ n
 unfolding first any
 first_none zero p h = refl
-first_none (suc n) p h = let q = or_false (any n p) (p n) h in rw (q.0, q.1) refl
+first_none (suc n) p h = let q = or_parts (any n p) (p n) h in rw (q.0, q.1) refl
 
 -- where some number passes, the lowest passes and none below it does
 pub first_is : (n : ℕ) (p : ℕ → Bool) → any n p ≡ true → (first n p < n) × (p (first n p) ≡ true) × (any (first n p) p ≡ false)
@@ -262,7 +214,7 @@ module _ (n : ℕ) (p : ℕ → Bool) where
       ⊎_elim
       (λ e. let w = first_is n p e in omega (arith, tried_to (first n p) w.0 w.2 w.1, w.0))
       (λ e. omega (arith, tried_all e))
-      (true_or_false (any n p))
+      (cases_Bool (any n p))
 
 -- ---- tabulated lists
 

@@ -3,6 +3,7 @@ use mathlib.Core.Path.{◌≡◌, refl, sym, ap, ap₂, ◌∙◌}
 use Prim.Native.Nat.{ℕ, zero, suc, ◌/◌, ◌%◌, ◌^◌, ◌<◌, min, max}
 use native.Mathlib.Nat.{mod-lt, zero-lt-suc, not-suc-le-zero, le_of_suc-le-suc}
 use native.Mathlib.Omega.{arith}
+use Rattle.std.specs.Int.Bits.{xor_assoc}
 use lib.Arith.{bin_ind, digits_div, digits_mod}
 use lib.Bits.{bit_and, bit_or, bit_xor, differ, xor_step, and_step, or_step, xor_comm, and_comm, xor_self, xor_zero_r, xor_shr, xor_mod, and_shr, and_mod}
 
@@ -55,20 +56,6 @@ cases3 P p000 p001 p010 p011 p100 p101 p110 p111 a b c =
     bit_cases (λ x. P x (b % 2) (c % 2))
     (bit_cases (λ y. P 0 y (c % 2)) (bit_cases (λ z. P 0 0 z) p000 p001 c) (bit_cases (λ z. P 0 1 z) p010 p011 c) b)
     (bit_cases (λ y. P 1 y (c % 2)) (bit_cases (λ z. P 1 0 z) p100 p101 c) (bit_cases (λ z. P 1 1 z) p110 p111 c) b) a
-
-pub xor_assoc : (a b c : ℕ) → bit_xor (bit_xor a b) c ≡ bit_xor a (bit_xor b c)
-xor_assoc =
-    bin_ind (λ a. (b c : ℕ) → bit_xor (bit_xor a b) c ≡ bit_xor a (bit_xor b c)) (λ b c. refl)
-    (λ a ih b c. digits_eq (bit_xor (bit_xor a b) c) (bit_xor a (bit_xor b c))
-    (simp (xor_half, ih))
-    (simp xor_odd (cases3 (λ x y z. differ (differ x y) z ≡ differ x (differ y z)) refl refl refl refl refl refl refl refl a b c)))
-
-pub and_assoc : (a b c : ℕ) → bit_and (bit_and a b) c ≡ bit_and a (bit_and b c)
-and_assoc =
-    bin_ind (λ a. (b c : ℕ) → bit_and (bit_and a b) c ≡ bit_and a (bit_and b c)) (λ b c. refl)
-    (λ a ih b c. digits_eq (bit_and (bit_and a b) c) (bit_and a (bit_and b c))
-    (simp (and_half, ih))
-    (simp and_odd (cases3 (λ x y z. min (min x y) z ≡ min x (min y z)) refl refl refl refl refl refl refl refl a b c)))
 
 pub and_xor : (a b c : ℕ) → bit_and a (bit_xor b c) ≡ bit_xor (bit_and a b) (bit_and a c)
 and_xor =

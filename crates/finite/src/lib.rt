@@ -4,7 +4,7 @@
 
 ghost use Rattle.std.specs.Prelude.{◌≡◌, ◌^◌, ◌<◌};
 
-// 2 to the power of `e`.
+/// 2 to the power of `e`.
 pub fn power(e: usize) -> usize
     requires { e < 64 }
     ensures { result ≡ 2 ^ e }

@@ -1,3 +1,5 @@
 -- What follows from the layers together, and what a customer may rely on.
-pub mod Produced
+pub mod ProducedVerdict
+pub mod JoinedVerdict
+pub mod JoinedRuns
 pub mod Promises

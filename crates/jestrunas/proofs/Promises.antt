@@ -14,20 +14,21 @@ use Rattle.reasons.proofs.Numbers as numbers
 use Rattle.finite.specs.Tests.{pick, count}
 use Rattle.finite.specs.Sums.{xor_below}
 use Rattle.anf.specs.NormalForm.{subset_sum, degree}
-use Rattle.anf.specs.Terms.{value_at, TermList, names, Depends, passing}
+use Rattle.anf.specs.Terms.{value_at, IsTermList, names, Depends, passing}
 use Rattle.anf.specs.Points.{Points, IgnoresPoint}
 use Rattle.anf.specs.Transform.{transform_reason, transform_after}
 use Rattle.anf.specs.Bench as bench_anf
-use Rattle.anf.specs.Tables.{entry, Permutation}
+use Rattle.anf.specs.Tables.{entry, Permutation, TableFits}
 use Rattle.anf.proofs.SubsetSums.{subset_sum_twice}
 use Rattle.anf.proofs.Terms.{unique_terms, names_exactly}
 use Rattle.anf.proofs.Degree.{shares_bound}
-use Rattle.anf.proofs.Answers as answers
+use Rattle.anf.proofs.TransformAnswer as answers
 use Rattle.anf.proofs.Bench as anf_bench
 use Rattle.design.specs.Limits.{broken, checked, head_answer}
 use Rattle.records.specs.Bytes.{Bytes}
-use Rattle.design.specs.Design.{Stage, Design, TableFits, StageFits, WellFormed, SameMeaning}
-use Rattle.design.specs.Encode.{encode}
+use Rattle.records.specs.Design.{Stage, Design}
+use Rattle.design.specs.WellFormed.{StageFits, WellFormed, SameMeaning}
+use Rattle.records.specs.Encode.{encode}
 use Rattle.design.specs.Reading.{refused, means, reading}
 use Rattle.design.specs.Refused.{RefusedFor}
 use Rattle.design.specs.Bench as bench_design
@@ -35,10 +36,10 @@ use Rattle.design.proofs.Limits as limits
 use Rattle.design.proofs.Theorems as design_theorems
 use Rattle.design.proofs.Reasons as reasons
 use Rattle.design.proofs.Bench as design_bench
-use Rattle.threshold.specs.Stages.{output, component, Correct, Ignores, NonComplete, Uniform, CountedUniform}
-use Rattle.threshold.specs.Chain.{read_meetings}
+use Rattle.sharing.specs.Stages.{output, component, Correct, Ignores, NonComplete, Uniform, CountedUniform}
+use Rattle.sharing.specs.Chain.{read_meetings}
 use Rattle.threshold.specs.Running.{running}
-use Rattle.threshold.proofs.Stages.{stage_uniform↔counted}
+use Rattle.sharing.proofs.Stages.{stage_uniform↔counted}
 use Rattle.checker.specs.Verdict.{answer, workspace_for, verdict}
 use Rattle.checker.specs.Trials.{trials_by_outcome, trials, judging, forecast}
 use Rattle.checker.specs.Accepted.{ChainIsBox, TablePermutes, Accepted, Explained}
@@ -61,15 +62,16 @@ use Rattle.producer.proofs.Terms as producer_terms
 use Rattle.producer.proofs.Room as producer_room
 use Rattle.direct.proofs.Bench as direct_bench
 use Rattle.producer.proofs.Bench as producer_bench
-use Rattle.joiner.specs.Joining.{joined_design, joined, joined_reason, joining, joined_after, Joinable, JoiningExplained, running_onward}
+use Rattle.joiner.specs.Joining.{joined_design, joined, joined_reason, joining, joined_after, Joinable, JoiningExplained}
 use Rattle.joiner.specs.Bench as bench_joiner
-use Rattle.joiner.proofs.Formed as joined_form
-use Rattle.joiner.proofs.Accepting as joined_verdict
-use Rattle.joiner.proofs.Seam as seam
-use Rattle.joiner.proofs.Answers as joined_answers
+use Rattle.joiner.proofs.JoinedDesign as joined_form
+use Rattle.joiner.proofs.Reasons as joined_answers
 use Rattle.joiner.proofs.Room as joined_lengths
 use Rattle.joiner.proofs.Bench as joiner_bench
-use Rattle.jestrunas.proofs.Produced.{produced_verdict}
+use Rattle.jestrunas.specs.JoinedRuns.{running_onward}
+use Rattle.jestrunas.proofs.ProducedVerdict.{produced_verdict}
+use Rattle.jestrunas.proofs.JoinedVerdict as joined_verdict
+use Rattle.jestrunas.proofs.JoinedRuns as joined_run
 
 -- ---- Normal form, for any number of variables
 
@@ -84,11 +86,11 @@ pub transform_twice : (m : ℕ) (input output back : List ℕ) → transform_rea
 transform_twice = answers.transform_twice
 
 -- 2. Unique lists. Rising lists of terms with equal values at every point are equal.
-pub unique_lists : (n : ℕ) (a b : List ℕ) → TermList n a → TermList n b → ((x : ℕ) → x < 2 ^ n → value_at a x ≡ value_at b x) → a ≡ b
+pub unique_lists : (n : ℕ) (a b : List ℕ) → IsTermList n a → IsTermList n b → ((x : ℕ) → x < 2 ^ n → value_at a x ≡ value_at b x) → a ≡ b
 unique_lists = unique_terms
 
 -- 3. Dependence. The function of a rising list depends on a group of variables exactly when one of its terms names one of them.
-pub dependence : (n group : ℕ) (l : List ℕ) → TermList n l → (names group l ≡ true) ↔ Depends n group (value_at l)
+pub dependence : (n group : ℕ) (l : List ℕ) → IsTermList n l → (names group l ≡ true) ↔ Depends n group (value_at l)
 dependence = names_exactly
 
 -- 4. Degree. Where the coefficient at a set of s or more variables is not zero, no s functions, each independent of at least one share, sum to the table.
@@ -123,7 +125,7 @@ one_meaning_one_file = design_theorems.one_meaning_one_file
 -- For permutations uniform agrees with the count in document 003.
 pub uniform_counted : (w s : ℕ) (g : Stage) → StageFits w s g → Permutation w g.table → Correct w s (component w g.lists) g.table
     → Uniform w s (output g.lists) g.table ↔ CountedUniform w s (output g.lists) g.table
-uniform_counted = stage_uniform↔counted
+uniform_counted w s g fits = stage_uniform↔counted w s g fits.table fits.count
 
 -- ---- The verdict
 
@@ -296,7 +298,7 @@ joined_accepted = joined_verdict.joined_accepted
 -- Running the joined file is running the second on what the first gives, for all files that can be joined, accepted or not, and for all shares; where the first
 -- refuses the shares, the joined file refuses them too.
 pub joined_runs : (f g : List ℕ) (d e : Design) → Joinable f g d e → (l : List ℕ) → running (joined f g) l ≡ running_onward g (running f l)
-joined_runs = seam.joined_runs
+joined_runs = joined_run.joined_runs
 
 -- 0 is answered exactly when the files can be joined and the joined file fits the output; and every number exactly when it is explained: the refusal that it
 -- names is there, and none before it in the published order is.

@@ -1,2 +1,3 @@
 -- The published operations.
 pub mod Published
+pub mod JoinedRuns

@@ -9,12 +9,13 @@ ghost use Rattle.checker.specs.Verdict.{workspace_after};
 ghost use Rattle.checker.specs.Trials.{judging, forecast};
 ghost use Rattle.producer.specs.Producing.{producing, output_after};
 ghost use Rattle.joiner.specs.Joining.{joining, joined_after};
-ghost use Rattle.jestrunas.specs.Published.{read_answer};
+ghost use Rattle.jestrunas.specs.Published.{c_verdict, c_judged, c_forecast, c_ran, c_produced, read_answer};
 
-use checker::{Forecast, Judged, Verdict};
+mod answers; // answers.rt: what C is answered
+
+pub use answers::{Forecast, Judged, Produced, Ran, Verdict};
 use reasons::Reason;
-use records::Produced;
-use threshold::{FiveShares, Ran};
+use threshold::FiveShares;
 
 // Five shares, the greatest number of them, by value; the unused ones are zero. A struct, as C passes no array by value.
 #[repr(C)]
@@ -25,7 +26,7 @@ pub struct Shares {
 
 // Reads a design file: the first fault and its place, or three zeros. Not by the `From` of a verdict, which has the number of stages where all is well.
 pub fn jestrunas_read(file: &[u8]) -> Verdict
-    ensures { result ≡ read_answer file.now }
+    ensures { result ≡ c_verdict (read_answer file.now) }
 {
     let (reason, place) = match design::read(file) {
         Ok(_) => (0, 0),
@@ -40,14 +41,14 @@ pub fn jestrunas_read(file: &[u8]) -> Verdict
 
 // What a verdict on a design file can take, from its head record alone.
 pub fn jestrunas_forecast(file: &[u8]) -> Forecast
-    ensures { result ≡ forecast file.now }
+    ensures { result ≡ c_forecast (forecast file.now) }
 {
     Forecast::from(checker::foresee(file))
 }
 
 // The verdict on a design file, and its trials.
 pub fn jestrunas_judge(file: &[u8], workspace: &mut [u8]) -> Judged
-    ensures value { result ≡ judging file.now (length workspace.old) }
+    ensures value { result ≡ c_judged (judging file.now (length workspace.old)) }
     ensures workspace_after { workspace.new ≡ workspace_after file.now workspace.old }
 {
     Judged::from(checker::judge(file, workspace))
@@ -55,7 +56,7 @@ pub fn jestrunas_judge(file: &[u8], workspace: &mut [u8]) -> Judged
 
 // Runs the chain of a design file on five shares.
 pub fn jestrunas_run(file: &[u8], shares: Shares) -> Ran
-    ensures { result ≡ running file.now shares.share }
+    ensures { result ≡ c_ran (running file.now shares.share) }
 {
     Ran::from(threshold::run(file, shares.share))
 }
@@ -68,7 +69,7 @@ pub fn jestrunas_produce(
     placement: &[u8],
     output: &mut [u8],
 ) -> Produced
-    ensures value { result ≡ producing m s table.now placement.now (length output.old) }
+    ensures value { result ≡ c_produced (producing m s table.now placement.now (length output.old)) }
     ensures output_after { output.new ≡ output_after m s table.now placement.now output.old }
 {
     Produced::from(producer::produce(m, s, table, placement, output))
@@ -76,7 +77,7 @@ pub fn jestrunas_produce(
 
 // Joins two design files into one.
 pub fn jestrunas_join(first: &[u8], second: &[u8], output: &mut [u8]) -> Produced
-    ensures value { result ≡ joining first.now second.now (length output.old) }
+    ensures value { result ≡ c_produced (joining first.now second.now (length output.old)) }
     ensures output_after { output.new ≡ joined_after first.now second.now output.old }
 {
     Produced::from(joiner::join(first, second, output))

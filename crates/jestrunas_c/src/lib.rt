@@ -9,17 +9,14 @@ ghost use Rattle.checker.specs.Verdict.{workspace_after};
 ghost use Rattle.checker.specs.Trials.{judging, forecast};
 ghost use Rattle.producer.specs.Producing.{producing, output_after};
 ghost use Rattle.joiner.specs.Joining.{joining, joined_after};
-ghost use Rattle.jestrunas.specs.Published.{read_answer};
+ghost use Rattle.jestrunas.specs.Published.{c_verdict, c_judged, c_forecast, c_ran, c_produced, read_answer};
 
-use checker::{Forecast, Judged, Verdict};
-use jestrunas::Shares;
-use records::Produced;
-use threshold::Ran;
+use jestrunas::{Forecast, Judged, Produced, Ran, Shares, Verdict};
 
 // Reads a design file: the first fault and its place, or three zeros.
 #[unsafe(no_mangle)]
 pub extern "C" fn jestrunas_read(file: &[u8]) -> Verdict
-    ensures { result ≡ read_answer file.now }
+    ensures { result ≡ c_verdict (read_answer file.now) }
 {
     jestrunas::jestrunas_read(file)
 }
@@ -27,7 +24,7 @@ pub extern "C" fn jestrunas_read(file: &[u8]) -> Verdict
 // What a verdict on a design file can take, from its head record alone.
 #[unsafe(no_mangle)]
 pub extern "C" fn jestrunas_forecast(file: &[u8]) -> Forecast
-    ensures { result ≡ forecast file.now }
+    ensures { result ≡ c_forecast (forecast file.now) }
 {
     jestrunas::jestrunas_forecast(file)
 }
@@ -35,7 +32,7 @@ pub extern "C" fn jestrunas_forecast(file: &[u8]) -> Forecast
 // The verdict on a design file, and its trials.
 #[unsafe(no_mangle)]
 pub extern "C" fn jestrunas_judge(file: &[u8], workspace: &mut [u8]) -> Judged
-    ensures value { result ≡ judging file.now (length workspace.old) }
+    ensures value { result ≡ c_judged (judging file.now (length workspace.old)) }
     ensures workspace_after { workspace.new ≡ workspace_after file.now workspace.old }
 {
     jestrunas::jestrunas_judge(file, workspace)
@@ -44,7 +41,7 @@ pub extern "C" fn jestrunas_judge(file: &[u8], workspace: &mut [u8]) -> Judged
 // Runs the chain of a design file on five shares.
 #[unsafe(no_mangle)]
 pub extern "C" fn jestrunas_run(file: &[u8], shares: Shares) -> Ran
-    ensures { result ≡ running file.now shares.share }
+    ensures { result ≡ c_ran (running file.now shares.share) }
 {
     jestrunas::jestrunas_run(file, shares)
 }
@@ -58,7 +55,7 @@ pub extern "C" fn jestrunas_produce(
     placement: &[u8],
     output: &mut [u8],
 ) -> Produced
-    ensures value { result ≡ producing m s table.now placement.now (length output.old) }
+    ensures value { result ≡ c_produced (producing m s table.now placement.now (length output.old)) }
     ensures output_after { output.new ≡ output_after m s table.now placement.now output.old }
 {
     jestrunas::jestrunas_produce(m, s, table, placement, output)
@@ -67,7 +64,7 @@ pub extern "C" fn jestrunas_produce(
 // Joins two design files into one.
 #[unsafe(no_mangle)]
 pub extern "C" fn jestrunas_join(first: &[u8], second: &[u8], output: &mut [u8]) -> Produced
-    ensures value { result ≡ joining first.now second.now (length output.old) }
+    ensures value { result ≡ c_produced (joining first.now second.now (length output.old)) }
     ensures output_after { output.new ≡ joined_after first.now second.now output.old }
 {
     jestrunas::jestrunas_join(first, second, output)

@@ -1,9 +1,7 @@
 -- Laws of joining.
-pub mod Formed
-pub mod Seam
-pub mod Accepting
-pub mod Answers
+pub mod JoinedDesign
+pub mod Reasons
 pub mod Room
 pub mod Writing
-pub mod Leaving
+pub mod JoiningDesigns
 pub mod Bench

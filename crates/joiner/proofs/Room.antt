@@ -7,22 +7,22 @@ use Prim.Native.Nat.{ℕ, ◌+◌, ◌^◌, ◌≤◌}
 use native.Mathlib.Omega.{arith}
 use lib.ListN.{length, length-append}
 use Rattle.records.specs.Bytes.{Bytes}
-use Rattle.records.specs.Records.{join}
-use Rattle.records.proofs.Joined.{join_map_append}
-use Rattle.design.specs.Design.{Stage, Design}
-use Rattle.design.specs.Encode.{stage_bytes}
+use Rattle.std.specs.List.{concat}
+use Rattle.records.proofs.Concat.{concat_map_append}
+use Rattle.records.specs.Design.{Stage, Design}
+use Rattle.records.specs.Encode.{stage_bytes}
 use Rattle.design.specs.Reading.{means, reading}
 use Rattle.design.proofs.FileLength.{parts_length}
 use Rattle.design.proofs.Theorems.{read_formed, read_encodes}
 use Rattle.joiner.specs.Joining.{joined_design, joined, joined_reason, Joinable}
-use Rattle.joiner.proofs.Formed.{joined_formed, joined_is}
-use Rattle.joiner.proofs.Answers.{joined_seventeen}
+use Rattle.joiner.proofs.JoinedDesign.{joined_formed, joined_is}
+use Rattle.joiner.proofs.Reasons.{joined_seventeen}
 
 abbrev stages_length : List Stage → ℕ
-stages_length gs = length (join (map stage_bytes gs))
+stages_length gs = length (concat (map stage_bytes gs))
 
 stages_length_lem : (a b : List Stage) → stages_length (a ++ b) ≡ stages_length a + stages_length b
-stages_length_lem a b = ap length (join_map_append stage_bytes a b) ∙ length-append (join (map stage_bytes a)) (join (map stage_bytes b))
+stages_length_lem a b = ap length (concat_map_append stage_bytes a b) ∙ length-append (concat (map stage_bytes a)) (concat (map stage_bytes b))
 
 -- a file that reads: head, box and end, and its stages
 read_length : (f : List ℕ) (d : Design) → Bytes f → reading f ≡ means d → length f ≡ 2 ^ d.m + 15 + stages_length d.stages
@@ -38,7 +38,7 @@ module _ (f g : List ℕ) (d e : Design) (j : Joinable f g d e) where
         read_length f d bf j.first,
         read_length g e bg j.second,
         ap (λ (m : ℕ). 2 ^ m) j.width,
-        ap length (joined_is f g d e j) ∙ parts_length (joined_design d e),
+        ap length (joined_is f g d e j.first j.second) ∙ parts_length (joined_design d e),
         (joined_formed f g d e j).box.size,
         stages_length_lem d.stages e.stages,
       )

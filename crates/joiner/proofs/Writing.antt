@@ -24,12 +24,11 @@ use Rattle.anf.specs.Tables.{entry}
 use Rattle.records.specs.Records.{record_head, a_record, end_record}
 use Rattle.std.specs.Borrow.{MutBor}
 use Rattle.reasons.specs.declared.Reason.TheVariants.{OutputTooShort}
-use Rattle.records.specs.Writing.{produced_of}
-use Rattle.records.specs.declared.Produced.{Produced}
+use Rattle.records.specs.Writing.{Produced, produced_of}
 use Rattle.records.specs.Inside.Overwriting.{overwrite}
 use Rattle.records.specs.Inside.Writes.{Starts, Writes}
 use Rattle.records.specs.declared.writer.Writer.{Writer}
-use Rattle.records.proofs.Overwriting.{record_length, two_records_length}
+use Rattle.records.proofs.ListRecords.{record_length, two_records_length}
 use Rattle.records.proofs.Writes.{room_left, writes_then, record_written, nothing_written, whole_written}
 use Rattle.records.proofs.Producing as rules
 use Rattle.design.specs.Limits.{greatest_points, broken}

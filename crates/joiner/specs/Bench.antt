@@ -1,8 +1,8 @@
 -- "Chaining two boxes": what joining answers and leaves, as rows.
 use Rattle.std.specs.Prelude.{ℕ, List, [], ◌∷◌, ◌++◌, replicate, take}
-use Rattle.records.specs.declared.Produced.{Produced}
-use Rattle.design.specs.Design.{Stage}
-use Rattle.design.specs.Encode.{encode}
+use Rattle.records.specs.Writing.{Produced}
+use Rattle.records.specs.Design.{Stage}
+use Rattle.records.specs.Encode.{encode}
 use Rattle.design.specs.Bench.{file_d}
 
 -- n stages of one bit, each with the table 0 1, whose components read shares 2, 3, .. and 1: those of D for three shares

@@ -1,16 +1,12 @@
--- "Chaining two boxes": two designs joined into one; the answer of joining their files, and the output afterwards; and a run that goes on.
+-- "Chaining two boxes": two designs joined into one; the answer of joining their files, and the output afterwards.
 use Rattle.std.specs.Prelude.{ℕ, ◌+◌, ◌≤◌, ◌<◌, ◌≡◌, Bool, not, ◌&&◌, List, [], ◌∷◌, ◌++◌, map, eqb, ltb, length}
-use Rattle.finite.specs.Tests.{pick}
 use Rattle.finite.specs.Faults.{first_fault}
 use Rattle.anf.specs.Tables.{entry}
-use Rattle.records.specs.Writing.{writing_answer, writing_after}
-use Rattle.records.specs.declared.Produced.{Produced}
+use Rattle.records.specs.Writing.{Produced, writing_answer, writing_after}
 use Rattle.design.specs.Limits.{greatest_stages}
-use Rattle.design.specs.Design.{Design}
-use Rattle.design.specs.Encode.{encode}
-use Rattle.design.specs.Reading.{refused, means, reading, reason_of, meaning}
-use Rattle.threshold.specs.Running.{running}
-use Rattle.threshold.specs.declared.Ran.{Ran}
+use Rattle.records.specs.Design.{Design}
+use Rattle.records.specs.Encode.{encode}
+use Rattle.design.specs.Reading.{Reading, refused, means, reading, meaning}
 
 -- S of the second after S of the first: each entry of the first is sent through the second. The stages of the first, then those of the second.
 abbrev pub joined_design : Design → Design → Design
@@ -30,31 +26,36 @@ joined f g = encode (joined_design (meaning f) (meaning g))
 abbrev pub same_shares : Design → Design → Bool
 same_shares d e = eqb d.m e.m && eqb d.s e.s
 
--- the refusals in the published order
-abbrev pub joined_faults : List ℕ → List ℕ → ℕ → List (Bool × ℕ)
-joined_faults f g room =
-    -- the first does not read
-    (not (eqb (reason_of (reading f)) 0), reason_of (reading f)) ∷
-    -- the second does not read
-    (not (eqb (reason_of (reading g)) 0), reason_of (reading g)) ∷
+-- the refusals of two designs in the published order
+abbrev pub joined_faults : Design → Design → ℕ → List (Bool × ℕ)
+joined_faults d e room =
     -- the widths or the share counts differ
-    (not (same_shares (meaning f) (meaning g)), 19) ∷
+    (not (same_shares d e), 19) ∷
     -- the stages are too many
-    (ltb greatest_stages ((meaning f).k + (meaning g).k), 20) ∷
+    (ltb greatest_stages (d.k + e.k), 20) ∷
     -- the file does not fit the lent output
-    (ltb room (length (joined f g)), 17) ∷
+    (ltb room (length (encode (joined_design d e))), 17) ∷
     []
 
--- the number of the refusal, or 0
+-- the number of their refusal, or 0
+unfoldable pub designs_reason : Design → Design → ℕ → ℕ
+designs_reason d e room = first_fault (joined_faults d e room) 0
+
+-- of two files before it: the first does not read, the second does not read
+abbrev pub reason_by : Reading → Reading → ℕ → ℕ
+reason_by (refused r p) y room = r
+reason_by (means d) (refused r p) room = r
+reason_by (means d) (means e) room = designs_reason d e room
+
 unfoldable pub joined_reason : List ℕ → List ℕ → ℕ → ℕ
-joined_reason f g room = first_fault (joined_faults f g room) 0
+joined_reason f g room = reason_by (reading f) (reading g) room
 
 -- the answer: a refusal has length 0
-unfoldable pub joining : List ℕ → List ℕ → ℕ → Produced
+abbrev pub joining : List ℕ → List ℕ → ℕ → Produced
 joining f g room = writing_answer (joined_reason f g room) (joined f g)
 
 -- the output afterwards: untouched on a refusal, else the file and then what stood past it
-unfoldable pub joined_after : List ℕ → List ℕ → List ℕ → List ℕ
+abbrev pub joined_after : List ℕ → List ℕ → List ℕ → List ℕ
 joined_after f g out = writing_after (joined_reason f g (length out)) (joined f g) out
 
 -- ---- as propositions
@@ -75,9 +76,3 @@ pub data JoiningExplained (f g : List ℕ) (room : ℕ) : ℕ → Type 0 where
   stages_exceed : (d e : Design) → reading f ≡ means d → reading g ≡ means e → d.m ≡ e.m → d.s ≡ e.s → greatest_stages < d.k + e.k → JoiningExplained f g room 20
   output_short : (d e : Design) → Joinable f g d e → room < length (joined f g) → JoiningExplained f g room 17
   joins : (d e : Design) → Joinable f g d e → length (joined f g) ≤ room → JoiningExplained f g room 0
-
--- ---- "through the seam"
-
--- running the file g on what a run gave; a refused run stays as it is
-abbrev pub running_onward : List ℕ → Ran → Ran
-running_onward g r = pick (eqb r.reason 0) (running g r.shares) r

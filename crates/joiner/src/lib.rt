@@ -5,16 +5,18 @@ mod file; // file.rt: a joined file, written if it fits
 
 ghost use Rattle.std.specs.Prelude.{◌≡◌, length};
 ghost use Rattle.records.specs.Writing.{produced_of};
+ghost use Rattle.design.specs.Inside.Held.{design_of};
 ghost use Rattle.joiner.specs.Joining.{joining, joined_after};
+ghost use Rattle.joiner.specs.Inside.Designs.{designs_joining, designs_joined_after};
 
 use design::{DesignFile, Head};
 use file::Parts;
 use reasons::Reason;
 
-// Joins two files that read.
+// Joins two designs.
 fn join_designs(a: &DesignFile<'_>, b: &DesignFile<'_>, output: &mut [u8]) -> Result<usize, Reason>
-    ensures value { produced_of result ≡ joining a.now.file.now b.now.file.now (length output.old) }
-    ensures output_after { output.new ≡ joined_after a.now.file.now b.now.file.now output.old }
+    ensures value { produced_of result ≡ designs_joining (design_of a.now) (design_of b.now) (length output.old) }
+    ensures output_after { output.new ≡ designs_joined_after (design_of a.now) (design_of b.now) output.old }
 {
     if a.head.m != b.head.m || a.head.s != b.head.s {
         return Err(Reason::SharesDiffer);

@@ -14,17 +14,16 @@ use Rattle.finite.specs.Faults.{first_fault}
 use Rattle.finite.proofs.Faults.{fault_here, fault_past, fault_none}
 use Rattle.finite.proofs.Testing.{tabulate_length, tabulate_at, pick_true}
 use Rattle.anf.specs.NormalForm.{subset_sum, degree}
-use Rattle.anf.specs.Tables.{entries_below, entry}
+use Rattle.anf.specs.Tables.{entries_below, entry, TableFits}
 use Rattle.anf.specs.Inside.Words.{words_degree}
 use Rattle.anf.specs.Transform.{transform_after, transformed}
-use Rattle.anf.proofs.Answers.{input_answer, transformed_degree}
+use Rattle.anf.proofs.TransformAnswer.{input_answer, transformed_degree}
 use Rattle.anf.proofs.Tables.{entries_at}
 use Rattle.design.specs.Limits.{broken}
-use Rattle.design.specs.Design.{TableFits}
 use Rattle.std.specs.Prelude.{Ok, Err}
 use Rattle.reasons.specs.Numbers.{number}
 use Rattle.reasons.specs.declared.Reason.{Reason}
-use Rattle.records.specs.Writing.{produced_of}
+use Rattle.records.specs.Writing.{Produced, produced_of}
 use Rattle.records.specs.Inside.Overwriting.{overwrite}
 use Rattle.design.proofs.Limits.{bounds, head_number}
 use Rattle.records.proofs.Producing as rules
@@ -34,7 +33,6 @@ use Rattle.direct.proofs.Loading.{loaded}
 use Rattle.producer.specs.Producing.{produced, produced_reason, producing, output_after, produced_length}
 use Rattle.producer.specs.Inside.Filing.{one_stage_file}
 use Rattle.producer.proofs.Terms.{length_congr, produced_size}
-use Rattle.records.specs.declared.Produced.{Produced}
 
 -- ---- what is known after the tests
 

@@ -14,17 +14,17 @@ use Rattle.anf.specs.Terms.{passing}
 use Rattle.anf.specs.Tables.{entries_below}
 use Rattle.design.specs.Limits.{broken}
 use Rattle.records.specs.Bytes.{term_bytes}
-use Rattle.records.specs.Records.{join, a_record}
-use Rattle.design.specs.Encode.{stage_bytes, encode}
+use Rattle.records.specs.Records.{a_record}
+use Rattle.records.specs.Encode.{stage_bytes, encode}
 use Rattle.records.specs.Writing.{writing_answer, writing_after}
-use Rattle.threshold.specs.Sharing.{share}
+use Rattle.sharing.specs.Sharing.{share}
 use Rattle.direct.specs.Direct.{is_product, chosen, is_outside, loads, placed, component_for, published, stands, direct_list, direct_lists, direct_stage, direct_sharing}
 use Rattle.producer.specs.Producing.{produced, produced_reason, producing, output_after}
 use Rattle.producer.specs.Bench.{rows}
 
 -- the definitions of the crates below that computing opens
 unfoldable below : ℕ
-unfolding all any first total tabulate xor_below subset subset_sum largest degree passing entries_below repeats met_before first_fault broken term_bytes join a_record stage_bytes encode share
+unfolding all any first total tabulate xor_below subset subset_sum largest degree passing entries_below repeats met_before first_fault broken term_bytes a_record stage_bytes encode share
 below = 0
 
 -- those of the direct sharing

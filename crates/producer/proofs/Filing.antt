@@ -3,8 +3,7 @@
 use mathlib.Core.Path.{◌≡◌, refl, sym, ap, ◌∙◌, subst}
 use mathlib.Core.Bool.{false}
 use mathlib.Core.List.{List, [], ◌∷◌, ◌++◌}
-use Prim.Native.Nat.{ℕ, ◌+◌, ◌*◌, ◌%◌, ◌^◌, ◌≤◌, ◌<◌}
-use native.Mathlib.Nat.{mod-lt}
+use Prim.Native.Nat.{ℕ, ◌+◌, ◌*◌, ◌^◌, ◌≤◌, ◌<◌}
 use native.Mathlib.Numerals.{add-one}
 use native.Mathlib.Omega.{arith}
 use Rattle.std.proofs.Math.Nat.{pow-le-pow_left, pow-le-pow_right, mul-le-mul}
@@ -21,7 +20,7 @@ use Rattle.records.specs.Inside.Overwriting.{list_records}
 use Rattle.records.specs.Inside.Writes.{Writes}
 use Rattle.records.specs.declared.writer.Writer.{Writer}
 use Rattle.design.proofs.Limits.{bounds}
-use Rattle.records.proofs.Overwriting.{record_length}
+use Rattle.records.proofs.ListRecords.{record_length}
 use Rattle.records.proofs.Writes.{room_left, writes_then}
 use Rattle.producer.specs.Producing.{terms_count, produced_length}
 use Rattle.producer.specs.Inside.Filing.{table_records, one_stage_file, word_bound, terms_bound}
@@ -32,12 +31,6 @@ use Rattle.producer.proofs.Writing.{tables_length, file_records, file_length}
 module _ (m s : ℕ) (limits : broken m s 1 ≡ false) where
   pub bits_fit : Fits w64 (m * s)
   bits_fit = record { fits = omega (arith, (bounds m s 1 limits).bits) }
-
-  pub some_bit : 0 < m
-  some_bit = omega (arith, (bounds m s 1 limits).m_low)
-
-  pub bit_within : (i : ℕ) → i % m < m
-  bit_within i = mod-lt i some_bit
 
 pub short_list : (l slice : List ℕ) → slice ≡ l → length l ≤ greatest_terms → 4 * length slice < 65536
 short_list l slice e h = omega (arith, ap length e)

@@ -13,7 +13,7 @@ use Rattle.finite.specs.Maps.{repeats}
 use Rattle.anf.specs.Tables.{entries_below, entry}
 use Rattle.anf.specs.Inside.Words.{words_degree}
 use Rattle.anf.specs.Transform.{greatest_width, transform_reason, transform_after}
-use Rattle.anf.proofs.Answers.{InputPasses, reason_input, input_answer, uneven, large}
+use Rattle.anf.proofs.TransformAnswer.{InputPasses, reason_input, input_answer, uneven, large}
 use Rattle.anf.specs.NormalForm.{degree}
 use Rattle.design.specs.Limits.{Head, broken, checked}
 use Rattle.design.proofs.Limits.{bounds, one_stage, head_refused, head_made}
@@ -23,12 +23,11 @@ use Rattle.reasons.specs.Numbers.{number}
 use Rattle.reasons.specs.declared.Reason.{Reason}
 use Rattle.reasons.proofs.Numbers.{number_some}
 use Rattle.reasons.specs.declared.Reason.TheVariants.{BoxRepeats, BadPlacement, DegreeTooHigh, OutputTooShort}
-use Rattle.records.specs.Writing.{produced_of}
+use Rattle.records.specs.Writing.{Produced, produced_of}
 use Rattle.records.specs.Inside.Overwriting.{overwrite}
 use Rattle.records.specs.Inside.Writes.{Starts, Writes}
 use Rattle.records.specs.declared.writer.Writer.{Writer}
 use Rattle.records.proofs.Writes.{whole_written}
-use Rattle.records.specs.declared.Produced.{Produced}
 use Rattle.direct.specs.Direct.{loads}
 use Rattle.direct.specs.Inside.Placing.{Ruled, place_by}
 use Rattle.direct.specs.declared.Rule.{Rule}

@@ -7,4 +7,3 @@ pub mod Filing
 pub mod Answering
 pub mod Leaving
 pub mod Bench
-pub mod Lengths

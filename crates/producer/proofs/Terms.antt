@@ -13,14 +13,14 @@ use lib.ListN.{length, get_or}
 use borrow.Author.Tests.{eqb-true, eq-eqb}
 use Rattle.finite.specs.Tests.{any, bit, count, total}
 use Rattle.finite.specs.Sets.{has}
-use Rattle.finite.proofs.Testing.{true_or_false, clash, and_left, and_right, and_intro, any_some, any_none}
+use Rattle.std.proofs.lemmas.Bool.{cases_Bool, and_parts, and_from}
+use Rattle.finite.proofs.Testing.{clash, any_some, any_none}
 use Rattle.finite.proofs.Counting.{total_congr, total_add, total_blocks, total_swap, total_times, total_const, count_congr, count_one, count_none}
 use Rattle.finite.proofs.Elements.{ones_count}
 use Rattle.anf.specs.NormalForm.{subset_sum, degree}
-use Rattle.anf.specs.Tables.{entry}
-use Rattle.anf.proofs.Passing.{passing_length}
+use Rattle.anf.specs.Tables.{entry, TableFits}
+use Rattle.anf.proofs.PassingLists.{passing_length}
 use Rattle.anf.proofs.SubsetSums.{subset_sum_lt}
-use Rattle.design.specs.Design.{TableFits}
 use Rattle.design.proofs.FileLength.{stage_length, encode_length}
 use Rattle.direct.specs.Direct.{is_product, chosen, Loads, placed, stands, direct_list, direct_stage, direct_sharing}
 use Rattle.direct.proofs.Products.{product_term}
@@ -49,7 +49,7 @@ module _ (m s : ℕ) (place : ℕ → ℕ) (o : Outside s place) (f : ℕ → �
   -- a product of a term stands in one list, and another number in none
   stands_once : (p : ℕ) → count s (λ c. stands m s place (subset_sum m f) c b p) ≡ count (2 ^ m) (λ u. is_term u p)
   unfolding stands
-  stands_once p = at (true_or_false (any (2 ^ m) (λ u. is_term u p)))
+  stands_once p = at (cases_Bool (any (2 ^ m) (λ u. is_term u p)))
     where
       goes : ℕ → Bool
       goes c = eqb (place (chosen m s p)) c
@@ -58,13 +58,13 @@ module _ (m s : ℕ) (place : ℕ → ℕ) (o : Outside s place) (f : ℕ → �
           → count s (λ c. any (2 ^ m) (λ u. is_term u p) && goes c) ≡ count (2 ^ m) (λ u. is_term u p)
       at (inl t) =
           let u = any_some (2 ^ m) (λ u. is_term u p) t in
-          let isp = and_left (is_product m s u.0 p) _ u.2 in
-          let small = term_small m s f low b u.0 u.1 (and_right (is_product m s u.0 p) _ u.2) in
-          count_one s _ (place (chosen m s p)) (product_component m s place o u.0 p u.1 isp small) (and_intro t (eq-eqb _ _ refl))
-          (λ c l e. sym (eqb-true _ _ (and_right (any (2 ^ m) (λ u. is_term u p)) (goes c) e)))
-          ∙ sym (count_one (2 ^ m) (λ u. is_term u p) u.0 u.1 u.2 (λ v l e. product_term m s v u.0 p l u.1 (and_left (is_product m s v p) _ e) isp))
+          let isp = (and_parts (is_product m s u.0 p) _ u.2).0 in
+          let small = term_small m s f low b u.0 u.1 (and_parts (is_product m s u.0 p) _ u.2).1 in
+          count_one s _ (place (chosen m s p)) (product_component m s place o u.0 p u.1 isp small) (and_from _ _ t (eq-eqb _ _ refl))
+          (λ c l e. sym (eqb-true _ _ (and_parts (any (2 ^ m) (λ u. is_term u p)) (goes c) e).1))
+          ∙ sym (count_one (2 ^ m) (λ u. is_term u p) u.0 u.1 u.2 (λ v l e. product_term m s v u.0 p l u.1 (and_parts (is_product m s v p) _ e).0 isp))
       at (inr n) =
-          count_none s _ (λ c l e. clash (and_left (any (2 ^ m) (λ u. is_term u p)) (goes c) e) n)
+          count_none s _ (λ c l e. clash (and_parts (any (2 ^ m) (λ u. is_term u p)) (goes c) e).0 n)
           ∙ sym (count_none (2 ^ m) (λ u. is_term u p) (λ u l e. clash e (any_none (2 ^ m) (λ u. is_term u p) n u l)))
 
   -- a term has its s^d products, and none where it is not in the bit
@@ -77,7 +77,7 @@ module _ (m s : ℕ) (place : ℕ → ℕ) (o : Outside s place) (f : ℕ → �
           whole : (y : Bool) → (y && true) ≡ y
           whole true = refl
           whole false = refl
-      at false = omega (arith, count_none (2 ^ (m * s)) (λ p. is_product m s u p && false) (λ p k e. clash (and_right (is_product m s u p) false e) refl))
+      at false = omega (arith, count_none (2 ^ (m * s)) (λ p. is_product m s u p && false) (λ p k e. clash (and_parts (is_product m s u p) false e).1 refl))
 
   bit_terms : total s (λ c. length (direct_list m s place (subset_sum m f) c b)) ≡ total (2 ^ m) (λ u. s ^ ones u * bit (has (subset_sum m f u) b))
   unfolding direct_list

@@ -11,20 +11,21 @@ use lib.Dec.{ltb, leb}
 use lib.ListN.{length, take, drop}
 use borrow.Author.Tests.{eqb-true, leb-true, leb-false, ltb-false, lt-ltb, le-ltb, not-false}
 use Rattle.finite.specs.Faults.{first_fault}
-use Rattle.finite.proofs.Testing.{true_or_false, not_true_false, pick_true}
+use Rattle.std.proofs.lemmas.Bool.{cases_Bool, false_from_ne_true}
+use Rattle.finite.proofs.Testing.{pick_true}
 use Rattle.finite.proofs.Maps.{repeats→injective, injective→repeats}
 use Rattle.finite.proofs.Faults.{fault_here, fault_past, fault_none, other_fault, no_fault}
 use Rattle.anf.specs.Tables.{entry}
 use Rattle.anf.specs.NormalForm.{degree}
 use Rattle.anf.proofs.Tables.{entries_at, entries_intro}
 use Rattle.design.specs.Limits.{broken}
-use Rattle.design.specs.Encode.{encode}
+use Rattle.records.specs.Encode.{encode}
 use Rattle.design.specs.Reading.{means, reading}
 use Rattle.design.proofs.Limits.{bounds, head_number}
 use Rattle.design.proofs.Theorems.{encode_reads}
 use Rattle.records.proofs.Producing.{success_file, success_rest, refusal_after}
-use Rattle.threshold.specs.Stages.{component, Correct, NonComplete}
-use Rattle.threshold.specs.Chain.{chained}
+use Rattle.sharing.specs.Stages.{component, Correct, NonComplete}
+use Rattle.sharing.specs.Chain.{chained}
 use Rattle.direct.specs.Direct.{loads, Loads, placed, component_for, published, direct_stage, direct_sharing, Shareable, Box}
 use Rattle.producer.specs.Producing.{produced, produced_reason, Succeeds, output_after}
 use Rattle.producer.proofs.Answering.{TableTested, table_tested, reason_placement, reason_degree, reason_last}
@@ -53,7 +54,7 @@ module _ (m s : ℕ) (t l : List ℕ) (room : ℕ) where
   unfolding produced_reason
   past_degree n away e =
       let b : broken m s 1 ≡ false =
-      not_true_false (broken m s 1) (λ z. away 4 (omega arith) (λ q. omega arith)
+      false_from_ne_true (broken m s 1) (λ z. away 4 (omega arith) (λ q. omega arith)
       (sym (head_number m s 1 ∙ pick_true (broken m s 1) 4 0 z) ∙ sym (fault_here (broken m s 1) _ _ 0 z) ∙ e)) in
       let size = other_fault _ 3 _ 0 n (away 3 (omega arith) (λ q. omega arith)) (sym (fault_past (broken m s 1) _ _ 0 b) ∙ e) in
       let below = other_fault _ 5 _ 0 n (away 5 (omega arith) (λ q. omega arith)) size.1 in
@@ -90,7 +91,7 @@ module _ (m s : ℕ) (t l : List ℕ) (room : ℕ) where
               let z : ◌≡◌ {A = ℕ} 16 21 = sym (reason_degree m s t l room (tested b) (loading s l a) (omega arith)) ∙ e in omega arith
 
       from : (Loads s l → ⊥) → produced_reason m s t l room ≡ 21
-      from n = reason_placement m s t l room (tested b) (not_true_false (loads s l) (λ e. n (loaded s l e)))
+      from n = reason_placement m s t l room (tested b) (false_from_ne_true (loads s l) (λ e. n (loaded s l e)))
 
   -- ---- 16
 
@@ -111,7 +112,7 @@ module _ (m s : ℕ) (t l : List ℕ) (room : ℕ) where
       from n =
           ⊎_elim (λ (q : leb s (degree m (entry t)) ≡ true). reason_degree m s t l room (tested b) (loading s l a) (leb-true s (degree m (entry t)) q))
           (λ (q : leb s (degree m (entry t)) ≡ false). absurd (n (low_shareable m s t (some b) b.table (leb-false s (degree m (entry t)) q))))
-          (true_or_false (leb s (degree m (entry t))))
+          (cases_Bool (leb s (degree m (entry t))))
 
   -- ---- 17 and 0
 

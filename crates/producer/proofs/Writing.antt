@@ -6,8 +6,8 @@ use Prim.Native.Nat.{ℕ, ◌+◌, ◌*◌, ◌/◌, ◌%◌, ◌≤◌, ◌<◌
 use native.Mathlib.Omega.{arith}
 use lib.ListN.{length, get_or, take, length-append}
 use Rattle.finite.proofs.Testing.{tabulate_at, tabulate_length}
-use Rattle.records.specs.Records.{join, a_record, list_record, end_record}
-use Rattle.design.specs.Encode.{stage_bytes, encode}
+use Rattle.records.specs.Records.{a_record, list_record, end_record}
+use Rattle.records.specs.Encode.{stage_bytes, encode}
 use Rattle.records.specs.Inside.Overwriting.{list_records}
 use Rattle.records.specs.Inside.Writes.{Writes}
 use Rattle.records.specs.declared.writer.Writer.{Writer}
@@ -69,7 +69,7 @@ module _ (m s : ℕ) (t : List ℕ) where
 
   -- the tables, the lists and the record that ends the file
   pub file_records : (ls : List (List ℕ)) → one_stage_file m s t ls ≡ table_records m s t ++ (list_records ls ++ end_record)
-  unfolding one_stage_file encode stage_bytes list_records join table_records
+  unfolding one_stage_file encode stage_bytes list_records table_records
   file_records ls =
       ap (λ (x : List ℕ). a_record 1 (m ∷ s ∷ 1 ∷ []) ++ (a_record 2 t ++ x))
       (ap (λ (x : List ℕ). x ++ end_record) (append-nil (a_record 2 t ++ list_records ls)) ∙ append_assoc (a_record 2 t) (list_records ls) end_record)

@@ -1,7 +1,7 @@
 -- "Bench designs": what producing answers and leaves.
 use Rattle.std.specs.Prelude.{ℕ, List, [], ◌∷◌, ◌++◌}
 use Rattle.finite.specs.Tests.{tabulate}
-use Rattle.records.specs.declared.Produced.{Produced}
+use Rattle.records.specs.Writing.{Produced}
 
 pub record ProducingRow : Type 0 where
   pub m : ℕ

@@ -7,10 +7,9 @@ use Rattle.finite.specs.Faults.{first_fault}
 use Rattle.anf.specs.Tables.{entry, entries_below}
 use Rattle.anf.specs.NormalForm.{degree}
 use Rattle.design.specs.Limits.{broken, checked, head_answer}
-use Rattle.design.specs.Encode.{encode}
-use Rattle.records.specs.Writing.{writing_answer, writing_after}
+use Rattle.records.specs.Encode.{encode}
+use Rattle.records.specs.Writing.{Produced, writing_answer, writing_after}
 use Rattle.direct.specs.Direct.{loads, Loads, placed, direct_sharing, Box}
-use Rattle.records.specs.declared.Produced.{Produced}
 
 -- the file that is written, of the table t by the placement l
 unfoldable pub produced : ℕ → ℕ → List ℕ → List ℕ → List ℕ

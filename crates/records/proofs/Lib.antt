@@ -1,6 +1,6 @@
 -- Laws of the bytes of a design file.
 pub mod TermBytes
-pub mod Joined
+pub mod Concat
 pub mod Overwriting
 pub mod ListRecords
 pub mod Writes

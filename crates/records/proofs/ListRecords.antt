@@ -1,5 +1,5 @@
 -- The records of lists: how long one is, and those of some lists, one behind the other.
-use mathlib.Core.Path.{◌≡◌, refl, sym, ap, ◌∙◌}
+use mathlib.Core.Path.{◌≡◌, refl, sym, ap, ap₂, ◌∙◌}
 use mathlib.Core.List.{List, [], ◌∷◌, ◌++◌, append_assoc}
 use Prim.Native.Nat.{ℕ, ◌+◌, ◌*◌, ◌≤◌, ◌<◌}
 use native.Mathlib.Numerals.{add-one}
@@ -7,11 +7,19 @@ use native.Mathlib.Omega.{arith}
 use lib.ListN.{length, get_or, take, drop, length-take, length-append, take-append-drop}
 use lib.Seq.{take-suc, take-length}
 use Rattle.records.specs.Bytes.{four, term_bytes}
-use Rattle.records.specs.Records.{join, list_record}
+use Rattle.records.specs.Records.{a_record, list_record}
 use Rattle.records.specs.Inside.Overwriting.{list_records}
-use Rattle.records.proofs.Joined.{join_map_append}
+use Rattle.records.proofs.Concat.{concat_map_append, concat_more}
 use Rattle.records.proofs.TermBytes.{length_term_bytes}
-use Rattle.records.proofs.Overwriting.{record_length, join_more}
+
+-- ---- one record
+
+pub record_length : (kind : ℕ) (b : List ℕ) → length (a_record kind b) ≡ 4 + length b
+unfolding a_record
+record_length kind b = omega arith
+
+pub two_records_length : (j k : ℕ) (a b : List ℕ) → length (a_record j a ++ a_record k b) ≡ 4 + length a + (4 + length b)
+two_records_length j k a b = length-append (a_record j a) (a_record k b) ∙ ap₂ ◌+◌ (record_length j a) (record_length k b)
 
 -- ---- terms
 
@@ -35,15 +43,15 @@ list_record_length ts = record_length 3 (term_bytes ts) ∙ omega (arith, length
 
 records_append : (a b : List (List ℕ)) → list_records (a ++ b) ≡ list_records a ++ list_records b
 unfolding list_records
-records_append a b = join_map_append list_record a b
+records_append a b = concat_map_append list_record a b
 
 pub records_none : (ls : List (List ℕ)) → list_records (take 0 ls) ≡ []
-unfolding list_records join
+unfolding list_records
 records_none ls = refl
 
 pub records_more : (ls : List (List ℕ)) (i : ℕ) → i < length ls → list_records (take (i + 1) ls) ≡ list_records (take i ls) ++ list_record (get_or ls i [])
 unfolding list_records
-records_more ls i h = join_more list_record ls i [] h
+records_more ls i h = concat_more list_record ls i [] h
 
 pub records_all : (ls : List (List ℕ)) → list_records (take (length ls) ls) ≡ list_records ls
 records_all ls = ap list_records (take-length ls)

@@ -2,23 +2,19 @@
 -- Assumes nothing.
 use mathlib.Core.Path.{◌≡◌, refl, sym, ap, ◌∙◌}
 use mathlib.Core.Logic.{◌≢◌}
-use mathlib.Core.Bool.{Bool, true, false}
 use mathlib.Core.List.{List, ◌++◌}
-use Prim.Native.Nat.{ℕ, ◌≤◌}
-use native.Mathlib.Omega.{arith}
+use Prim.Native.Nat.{ℕ}
 use lib.Dec.{eqb}
-use lib.ListN.{length, take, drop, length-append}
+use lib.ListN.{length, take, drop}
 use lib.Seq.{take-append_seam, drop-append_seam}
 use borrow.Author.Tests.{eq-eqb, ne_eqb}
 use Rattle.finite.proofs.Testing.{pick_true, pick_false}
-use Rattle.finite.specs.Tests.{pick}
 use Rattle.std.specs.Prelude.{Ok, Err}
 use Rattle.reasons.specs.Numbers.{number}
 use Rattle.reasons.specs.declared.Reason.{Reason}
 use Rattle.reasons.proofs.Numbers.{number_some}
-use Rattle.records.specs.Writing.{writing_answer, writing_after, produced_of}
+use Rattle.records.specs.Writing.{Produced, writing_answer, writing_after, produced_of}
 use Rattle.records.specs.Inside.Overwriting.{overwrite}
-use Rattle.records.specs.declared.Produced.{Produced}
 use Rattle.records.proofs.Overwriting.{overwrite_front}
 
 module _ (reason : ℕ) (file : List ℕ) where
@@ -54,21 +50,16 @@ module _ (reason : ℕ) (file : List ℕ) where
   pub success_rest : reason ≡ 0 → (out : List ℕ) → drop (length file) (writing_after reason file out) ≡ drop (length file) out
   success_rest e out = ap (drop (length file)) (success_after e out) ∙ drop-append_seam file (drop (length file) out)
 
-  -- ---- the stated length lies within the output
-
-  pub length_within : (out : List ℕ) → (writing_answer reason file).length ≤ length (writing_after reason file out)
-  unfolding writing_answer writing_after
-  length_within out = at (eqb reason 0)
-    where
-      at : (b : Bool) → pick b (length file) 0 ≤ length (pick b (file ++ drop (length file) out) out)
-      at true = simp length-append (omega arith)
-      at false = omega arith
-
 -- ---- as code has it: r is answered, and the output is `after`
 
 pub record Answered (reason : ℕ) (file out : List ℕ) (r : Produced) (after : List ℕ) : Type 0 where
   pub answer : r ≡ writing_answer reason file
   pub output : after ≡ writing_after reason file out
+
+-- as a contract has it
+pub answered : {reason : ℕ} {file out : List ℕ} {r : Produced} {after : List ℕ} → Answered reason file out r after
+    → record { value : r ≡ writing_answer reason file; output_after : after ≡ writing_after reason file out }
+answered a = record { value = a.answer; output_after = a.output }
 
 module _ (reason : ℕ) (file out : List ℕ) where
   -- refused for the reason k

@@ -1,21 +1,12 @@
 -- Laws of lists of terms and their bytes.
-use mathlib.Core.Path.{◌≡◌, refl, sym, ap, ◌∙◌}
-use mathlib.Core.Bool.{Bool, true, false}
+use mathlib.Core.Path.{◌≡◌, refl, ap, ◌∙◌}
 use mathlib.Core.List.{List, [], ◌∷◌}
 use Prim.Native.Nat.{ℕ, suc, ◌+◌, ◌*◌, ◌/◌, ◌%◌, ◌<◌, ◌≤◌}
 use native.Mathlib.Numerals.{towards_suc}
 use native.Mathlib.Omega.{arith}
-use lib.Dec.{eqb}
-use lib.Bits.{bit_and, bit_or, bit_xor, xor_zero_r, or_add_and}
-use lib.ListN.{length, get_or, take, drop, length-drop}
+use lib.ListN.{length, get_or, take, drop}
 use lib.Seq.{drop-cons}
-use borrow.Author.Tests.{eqb-true, eq-eqb}
-use Rattle.std.specs.Int.{from_bool, w32, from_le_bytes}
-use Rattle.finite.specs.Tests.{pick}
-use Rattle.finite.specs.Sets.{subset}
-use Rattle.finite.proofs.Testing.{bool_ext}
-use Rattle.finite.proofs.Xor.{xor_assoc}
-use Rattle.anf.specs.Terms.{value_at}
+use Rattle.std.specs.Int.{w32, from_le_bytes}
 use Rattle.records.specs.Bytes.{little, u32_at, term_bytes}
 use Rattle.records.specs.Inside.Terms.{terms}
 
@@ -36,9 +27,6 @@ terms_short (a ∷ []) h = refl
 terms_short (a ∷ b ∷ []) h = refl
 terms_short (a ∷ b ∷ c ∷ []) h = refl
 terms_short (a ∷ b ∷ c ∷ d ∷ l) h = absurd (omega arith)
-
-pub terms_end : (l : List ℕ) (at : ℕ) → length l < at + 4 → terms (drop at l) ≡ []
-terms_end l at h = terms_short (drop at l) (simp length-drop (omega arith))
 
 -- how many terms bytes stand for
 pub terms_length : (l : List ℕ) → length (terms l) ≡ length l / 4
@@ -66,32 +54,6 @@ pub length_term_bytes : (ts : List ℕ) → length (term_bytes ts) ≡ 4 * lengt
 unfolding term_bytes
 length_term_bytes [] = refl
 length_term_bytes (t ∷ ts) = let e = length_term_bytes ts in omega arith
-
--- ---- the value of a list: v is that of the terms so far, l are those that are left
-
-one_there : (t x : ℕ) → eqb (bit_or t x) x ≡ subset t x
-unfolding subset
-one_there t x =
-    bool_ext (eqb (bit_or t x) x) (eqb (bit_and t x) t)
-    (λ h. eq-eqb _ _ (omega (arith, or_add_and t x, eqb-true _ _ h)))
-    (λ h. eq-eqb _ _ (omega (arith, or_add_and t x, eqb-true _ _ h)))
-
-one_is : (b : Bool) → from_bool b ≡ pick b 1 0
-one_is true = refl
-one_is false = refl
-
-module _ (ts l : List ℕ) (x v : ℕ) (i : bit_xor v (value_at l x) ≡ value_at ts x) where
-  -- the first of them is the term t, and r is whether it is 1
-  pub value_more : (t r : ℕ) (l' : List ℕ) → l ≡ t ∷ l' → r ≡ from_bool (eqb (bit_or t x) x) → bit_xor (bit_xor v r) (value_at l' x) ≡ value_at ts x
-  unfolding value_at
-  value_more t r l' e er =
-      let p : r ≡ pick (subset t x) 1 0 = er ∙ ap from_bool (one_there t x) ∙ one_is (subset t x) in
-      xor_assoc v r (value_at l' x) ∙ ap (λ (a : ℕ). bit_xor v (bit_xor a (value_at l' x))) p ∙ rw e at i
-
-  -- none is left
-  pub value_all : l ≡ [] → v ≡ value_at ts x
-  unfolding value_at
-  value_all e = sym (xor_zero_r v) ∙ rw e at i
 
 -- ---- going over a list: l are the bytes that are left, f the first four
 

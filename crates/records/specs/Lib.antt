@@ -1,4 +1,6 @@
--- The bytes of a design file.
+-- A design, and the bytes of its file.
+pub mod Design
+pub mod Encode
 pub mod Bytes
 pub mod Kinds
 pub mod Records

@@ -1,11 +1,6 @@
 -- "The design file", its records: a two-byte body length, a two-byte kind, then the body.
-use Rattle.std.specs.Prelude.{ℕ, List, [], ◌∷◌, ◌++◌, length}
+use Rattle.std.specs.Prelude.{ℕ, List, [], ◌++◌, length}
 use Rattle.records.specs.Bytes.{two, term_bytes}
-
--- lists one behind the other
-unfoldable pub join : List (List ℕ) → List ℕ
-join [] = []
-join (x ∷ xs) = x ++ join xs
 
 -- the four bytes before a body: its length and its kind
 abbrev pub record_head : ℕ → ℕ → List ℕ

@@ -3,9 +3,13 @@ use Rattle.std.specs.Prelude.{ℕ, Result, Ok, Err, List, ◌++◌, eqb, length,
 use Rattle.reasons.specs.declared.Reason.{Reason}
 use Rattle.reasons.specs.Numbers.{number}
 use Rattle.finite.specs.Tests.{pick}
-use Rattle.records.specs.declared.Produced.{Produced}
 
--- number and length: a refusal has length 0
+-- the number of a refusal, or 0, and the length of the file that was written
+pub record Produced : Type 0 where
+  pub reason : ℕ
+  pub length : ℕ
+
+-- a refusal has length 0
 unfoldable pub writing_answer : ℕ → List ℕ → Produced
 writing_answer reason file = record { reason = reason; length = pick (eqb reason 0) (length file) 0 }
 

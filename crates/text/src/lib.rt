@@ -3,26 +3,7 @@
 #![tactic(auto)]
 
 ghost use Rattle.std.specs.Prelude.{◌≡◌, ◌<◌, ◌≤◌, ◌++◌, IfSome, List, ℕ, length, drop, is_some, if◌then◌else◌};
-ghost use Rattle.text.specs.Lines.{
-  after_spaces,
-  after_word,
-  digit_of,
-  number_from,
-  after_number,
-  entry_of,
-  after_entry,
-  entries_of,
-  after_entries,
-  after_line,
-  width_of,
-  shares_of,
-  table_of,
-  after_request,
-  placement_of,
-  after_placement,
-  file_of,
-  after_file,
-};
+ghost use Rattle.text.specs.Lines.{after_spaces, after_word, digit_of, number_from, after_number, entry_of, after_entry, entries_of, after_entries, after_line, width_of, shares_of, table_of, after_request, placement_of, after_placement, file_of, after_file};
 
 use std::marker::Model;
 

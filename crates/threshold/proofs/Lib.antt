@@ -1,14 +1,6 @@
--- Laws of sharings, stages and chains.
-pub mod Sharing
-pub mod Output
-pub mod Carried
-pub mod Tests
-pub mod Tables
-pub mod Stages
-pub mod Meetings
-pub mod Dependence
+-- Laws of the stages' outputs, and of running.
 pub mod Packing
 pub mod Running
-pub mod Evaluating
-pub mod Together
-pub mod Sending
+pub mod EngineValues
+pub mod BlockOutputs
+pub mod ChainRuns

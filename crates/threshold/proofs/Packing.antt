@@ -3,25 +3,24 @@ use mathlib.Core.Path.{◌≡◌, refl, sym, ap, ◌∙◌, subst}
 use mathlib.Core.Bool.{true}
 use mathlib.Core.List.{List, ◌++◌}
 use Prim.Native.Nat.{ℕ, zero, suc, ◌+◌, ◌-◌, ◌*◌, ◌^◌, ◌≤◌, ◌<◌}
-use native.Mathlib.Nat.{not-suc-le-zero, mul_comm, add_comm, mul-le-mul_left, le_refl, le_step, lt_of_lt_of_le}
-use native.Mathlib.Numerals.{add-one}
-use native.Mathlib.Decide.{dec_lt, ℕ_discrete}
+use native.Mathlib.Nat.{mul-le-mul_left, lt_of_lt_of_le}
+use native.Mathlib.Decide.{dec_lt}
 use native.Mathlib.Omega.{arith}
-use lib.Arith.{digits_lt}
 use lib.Pow.{pow_mono}
 use lib.Bits.{bit_xor, xor_zero_r}
 use lib.Dec.{eqb, ltb}
-use lib.ListN.{length, get_or, set, drop}
-use lib.Seq.{ext_get_or, get_or-set_same, get_or-set_other}
+use lib.ListN.{length, get_or, drop}
+use lib.Seq.{ext_get_or}
 use borrow.Author.Tests.{eqb-true, ltb-true, lt-ltb, le-ltb}
-use Rattle.finite.specs.Tests.{pick, total, tabulate}
+use Rattle.finite.specs.Tests.{pick, tabulate}
 use Rattle.finite.specs.Sums.{xor_below}
-use Rattle.finite.proofs.Testing.{below, all_at, all_intro, pick_true, pick_false, tabulate_at, tabulate_length}
+use Rattle.finite.proofs.Testing.{all_at, all_intro, pick_true, pick_false, tabulate_at, tabulate_length}
 use Rattle.finite.proofs.Sums.{xor_below_none, xor_below_add, xor_below_ext}
 use Rattle.design.specs.Limits.{greatest_shares, greatest_share_bits}
-use Rattle.threshold.specs.Sharing.{share, sum, setting, with_share}
-use Rattle.threshold.specs.Running.{packed, unpacked, share_fits, shares_fit, five_sum, five_zeros}
-use Rattle.threshold.proofs.Sharing.{share_lt, share_low, share_top, share_put, share_with, with_lt, sum_shares, pow_step, pow_zeroth, shares_eq}
+use Rattle.sharing.specs.Sharing.{share, sum, packed}
+use Rattle.threshold.specs.Running.{unpacked, share_fits, shares_fit, five_sum, five_zeros}
+use Rattle.sharing.proofs.Sharing.{share_lt, sum_shares, shares_eq}
+use Rattle.sharing.proofs.Packing.{packed_lt, share_packed}
 
 -- ---- which shares a run takes
 
@@ -50,59 +49,11 @@ share_fits_lem w s l e hs j h = fit_used w s j (get_or l j 0) (fit_at w s l e j 
 
 -- ---- five bytes as a sharing
 
-pub packed_none : (w : ℕ) (l : List ℕ) → packed w 0 l ≡ 0
-unfolding packed total
-packed_none w l = refl
-
-packed_suc : (w s : ℕ) (l : List ℕ) → packed w (suc s) l ≡ get_or l s 0 * 2 ^ (w * s) + packed w s l
-unfolding packed total
-packed_suc w s l = refl
-
-pub packed_next : (w s : ℕ) (l : List ℕ) → packed w (s + 1) l ≡ packed w s l + get_or l s 0 * 2 ^ (w * s)
-packed_next w s l = rw add-one (packed_suc w s l ∙ add_comm (get_or l s 0 * 2 ^ (w * s)) (packed w s l))
-
-pub packed_lt : (w s : ℕ) (l : List ℕ) → ((j : ℕ) → j < s → get_or l j 0 < 2 ^ w) → packed w s l < 2 ^ (w * s)
-packed_lt w zero l h = rw (packed_none, pow_zeroth) (le_refl 1)
-packed_lt w (suc s) l h =
-    rw (packed_suc w s l, pow_step w s)
-    (subst (λ (x : ℕ). get_or l s 0 * 2 ^ (w * s) + packed w s l < x) (mul_comm (2 ^ w) (2 ^ (w * s)))
-    (digits_lt (h s (le_refl (suc s))) (packed_lt w s l (λ j k. h j (le_step k)))))
-
 -- what code has packed so far fits the greatest share bits
 pub packed_small : (w s : ℕ) (l : List ℕ) → w * s ≤ greatest_share_bits → s ≤ greatest_shares → shares_fit w s l ≡ true → (j : ℕ) → j ≤ s → packed w j l < 2 ^ greatest_share_bits
 packed_small w s l b hs e j h =
     let q = mul-le-mul_left w h in
     lt_of_lt_of_le (packed_lt w j l (λ i k. share_fits_lem w s l e hs i (omega arith))) (pow_mono {j = greatest_share_bits} (omega arith))
-
--- share j of them is byte j
-pub share_packed : (w s : ℕ) (l : List ℕ) → ((j : ℕ) → j < s → get_or l j 0 < 2 ^ w) → (j : ℕ) → j < s → share w j (packed w s l) ≡ get_or l j 0
-share_packed w zero l h j k = absurd (not-suc-le-zero k)
-share_packed w (suc s) l h j k =
-    let below' : (i : ℕ) → i < s → get_or l i 0 < 2 ^ w = λ i u. h i (le_step u) in
-    let r = packed_lt w s l below' in
-    ap (share w j) (packed_suc w s l)
-    ∙ below k
-    (λ e. rw e (share_top w s (get_or l s 0) (packed w s l) (h s (le_refl (suc s))) r))
-    (λ u. share_low w s j (get_or l s 0) (packed w s l) u r ∙ share_packed w s l below' j u)
-
--- a change of byte j alone
-pub packed_set : (w s : ℕ) (l : List ℕ) → length l ≡ s → ((i : ℕ) → i < s → get_or l i 0 < 2 ^ w) → (j v : ℕ) → j < s → v < 2 ^ w
-    → packed w s (set l j v) ≡ with_share w j v (packed w s l)
-packed_set w s l n h j v k hv =
-    shares_eq w s (packed w s (set l j v)) (with_share w j v (packed w s l)) (packed_lt w s (set l j v) (λ i u. small i u (ℕ_discrete i j)))
-    (with_lt w s j v (packed w s l) k hv (packed_lt w s l h))
-    (λ i u. share_packed w s (set l j v) (λ a b. small a b (ℕ_discrete a j)) i u ∙ go i u (ℕ_discrete i j))
-  where
-    same : get_or (set l j v) j 0 ≡ v
-    same = get_or-set_same l j v 0 (subst (λ (x : ℕ). j < x) (sym n) k)
-
-    small : (i : ℕ) → i < s → Dec (i ≡ j) → get_or (set l j v) i 0 < 2 ^ w
-    small i u (yes e) = rw (e, same) hv
-    small i u (no e) = rw (get_or-set_other l j i v 0 e) (h i u)
-
-    go : (i : ℕ) → i < s → Dec (i ≡ j) → get_or (set l j v) i 0 ≡ share w i (with_share w j v (packed w s l))
-    go i u (yes e) = rw e (same ∙ sym (share_put w j v (setting w j (packed w s l)) hv))
-    go i u (no e) = get_or-set_other l j i v 0 e ∙ sym (share_with w j i v (packed w s l) e hv ∙ share_packed w s l h i u)
 
 -- ---- a sharing as five bytes
 

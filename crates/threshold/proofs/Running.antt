@@ -1,5 +1,5 @@
 -- A run on the five bytes of a sharing is the chain sent through. Assumes nothing.
-use mathlib.Core.Path.{◌≡◌, refl, sym, ap, ap₂, ◌∙◌, subst}
+use mathlib.Core.Path.{◌≡◌, refl, sym, ap, ◌∙◌, subst}
 use mathlib.Core.Bool.{true, false}
 use mathlib.Core.List.{List, [], ◌∷◌, ◌++◌}
 use Prim.Native.Nat.{ℕ, zero, suc, ◌+◌, ◌*◌, ◌^◌, ◌≤◌, ◌<◌}
@@ -8,16 +8,15 @@ use native.Mathlib.Numerals.{add-one}
 use lib.ListN.{length, get_or}
 use Rattle.finite.proofs.Testing.{pick_true, pick_false}
 use Rattle.design.specs.Limits.{greatest_shares}
-use Rattle.design.specs.Design.{Stage, Design, no_stage}
-use Rattle.design.specs.Reading.{Reading, refused, means, reading, meaning}
-use Rattle.design.specs.Inside.Described.{Describes}
-use Rattle.design.specs.Layout.{Layout}
-use Rattle.design.proofs.Answered.{described}
-use Rattle.threshold.specs.Stages.{output}
-use Rattle.threshold.specs.Chain.{handed}
-use Rattle.threshold.specs.Running.{packed, unpacked, shares_fit, as_bytes, output_shares, refused_run, finished_run, running_on, running}
-use Rattle.threshold.proofs.Stages.{stage_output_lt}
-use Rattle.threshold.proofs.Packing.{packed_lt, packed_unpacked, unpacked_packed, unpacked_fits, share_fits_lem}
+use Rattle.records.specs.Design.{Stage, Design, no_stage}
+use Rattle.design.specs.Reading.{Reading, refused, means, reading}
+use Rattle.sharing.specs.Stages.{output}
+use Rattle.sharing.specs.Chain.{handed}
+use Rattle.sharing.specs.Sharing.{packed}
+use Rattle.threshold.specs.Running.{unpacked, shares_fit, as_bytes, refused_run, finished_run, running_on, running}
+use Rattle.sharing.proofs.Stages.{stage_output_lt}
+use Rattle.sharing.proofs.Packing.{packed_lt}
+use Rattle.threshold.proofs.Packing.{packed_unpacked, unpacked_packed, unpacked_fits, share_fits_lem}
 
 -- ---- the chain
 
@@ -71,7 +70,7 @@ module _ (w s : ℕ) (gs : List Stage) (l : List ℕ) (hs : s ≤ greatest_share
 
 -- ---- what a run answers
 
-running_as : (f l : List ℕ) (r : Reading) → reading f ≡ r → running f l ≡ running_on r l
+pub running_as : (f l : List ℕ) (r : Reading) → reading f ≡ r → running f l ≡ running_on r l
 unfolding running
 running_as f l r e = ap (λ (x : Reading). running_on x l) e
 
@@ -79,13 +78,19 @@ pub running_refused : (f l : List ℕ) (r p : ℕ) → reading f ≡ refused r p
 unfolding running_on
 running_refused f l r p e = running_as f l (refused r p) e
 
-pub running_unfit : (f l : List ℕ) (d : Design) → reading f ≡ means d → shares_fit d.m d.s l ≡ false → running f l ≡ refused_run 15
+pub unfit_run : (d : Design) (l : List ℕ) → shares_fit d.m d.s l ≡ false → running_on (means d) l ≡ refused_run 15
 unfolding running_on
-running_unfit f l d e u = running_as f l (means d) e ∙ pick_false (shares_fit d.m d.s l) (finished_run d l) (refused_run 15) u
+unfit_run d l u = pick_false (shares_fit d.m d.s l) (finished_run d l) (refused_run 15) u
+
+pub fit_run : (d : Design) (l : List ℕ) → shares_fit d.m d.s l ≡ true → running_on (means d) l ≡ finished_run d l
+unfolding running_on
+fit_run d l u = pick_true (shares_fit d.m d.s l) (finished_run d l) (refused_run 15) u
+
+pub running_unfit : (f l : List ℕ) (d : Design) → reading f ≡ means d → shares_fit d.m d.s l ≡ false → running f l ≡ refused_run 15
+running_unfit f l d e u = running_as f l (means d) e ∙ unfit_run d l u
 
 pub running_success : (f l : List ℕ) (d : Design) → reading f ≡ means d → shares_fit d.m d.s l ≡ true → running f l ≡ finished_run d l
-unfolding running_on
-running_success f l d e u = running_as f l (means d) e ∙ pick_true (shares_fit d.m d.s l) (finished_run d l) (refused_run 15) u
+running_success f l d e u = running_as f l (means d) e ∙ fit_run d l u
 
 -- the run on the five bytes of a sharing answers 0 and the five bytes of what the last stage gives
 pub running_sharing : (f : List ℕ) (d : Design) → reading f ≡ means d → d.s ≤ greatest_shares → (σ : ℕ) → σ < 2 ^ (d.m * d.s)
@@ -93,19 +98,3 @@ pub running_sharing : (f : List ℕ) (d : Design) → reading f ≡ means d → 
 running_sharing f d e hs σ l =
     running_success f (as_bytes d σ) d e (unpacked_fits d.m d.s σ hs)
     ∙ ap (λ (x : ℕ). record { reason = 0; shares = as_bytes d (handed d.stages d.k x) }) (packed_unpacked d.m d.s σ hs l)
-
--- code that has sent the shares through the last stage has the answer
-pub sent_end : (f l at : List ℕ) (y : Layout) (d : Describes f y) (t : ℕ) → t ≡ y.head.k → shares_fit y.head.m y.head.s l ≡ true
-    → Sent y.head.m y.head.s (meaning f).stages l at t → record { reason = 0; shares = at } ≡ running f l
-sent_end f l at y d t z u h =
-    let r = described d in
-    let u' : shares_fit (meaning f).m (meaning f).s l ≡ true = sym (ap₂ (λ (m s : ℕ). shares_fit m s l) r.m r.s) ∙ u in
-    let e : at ≡ output_shares (meaning f) l =
-    h.shares ∙ ap (λ (k : ℕ). unpacked y.head.m y.head.s (handed (meaning f).stages k (packed y.head.m y.head.s l))) (z ∙ r.k)
-    ∙ ap₂ (λ (m s : ℕ). unpacked m s (handed (meaning f).stages (meaning f).k (packed m s l))) r.m r.s in
-    ap (λ (o : List ℕ). record { reason = 0; shares = o }) e ∙ sym (running_success f l (meaning f) d.read u')
-
-pub unfit_end : (f l : List ℕ) (y : Layout) (d : Describes f y) → shares_fit y.head.m y.head.s l ≡ false → running f l ≡ refused_run 15
-unfit_end f l y d u =
-    let r = described d in
-    running_unfit f l (meaning f) d.read (sym (ap₂ (λ (m s : ℕ). shares_fit m s l) r.m r.s) ∙ u)

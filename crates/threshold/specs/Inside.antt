@@ -1,5 +1,4 @@
 -- What only contracts inside the crates need: no published contract and no promise rests on it.
-pub mod Variables
 pub mod Blocks
 pub mod Outputs
 pub mod Outcomes

@@ -1,6 +1,3 @@
--- Threshold implementation: sharings, stages, chains.
-pub mod Sharing
-pub mod Stages
-pub mod Chain
+-- Running a chain.
 pub mod Running
 pub mod Inside

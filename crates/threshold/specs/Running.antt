@@ -1,17 +1,12 @@
 -- Running a chain on five shares, the greatest number of them: bytes that travel together, unused ones zero (the paper's "Running a chain").
-use Rattle.std.specs.Prelude.{ℕ, ◌*◌, ◌^◌, Bool, List, eqb, ltb, get_or, replicate}
-use Rattle.finite.specs.Tests.{pick, all, total, tabulate}
+use Rattle.std.specs.Prelude.{ℕ, ◌^◌, Bool, List, eqb, ltb, get_or, replicate}
+use Rattle.finite.specs.Tests.{pick, all, tabulate}
 use Rattle.finite.specs.Sums.{xor_below}
 use Rattle.design.specs.Limits.{greatest_shares}
-use Rattle.design.specs.Design.{Design}
+use Rattle.records.specs.Design.{Design}
 use Rattle.design.specs.Reading.{Reading, refused, means, reading}
-use Rattle.threshold.specs.Sharing.{share}
-use Rattle.threshold.specs.Chain.{handed}
-use Rattle.threshold.specs.declared.Ran.{Ran}
-
--- the sharing whose s shares are the first bytes of l
-unfoldable pub packed : ℕ → ℕ → List ℕ → ℕ
-packed w s l = total s (λ j. get_or l j 0 * 2 ^ (w * j))
+use Rattle.sharing.specs.Sharing.{share, packed}
+use Rattle.sharing.specs.Chain.{handed}
 
 -- the five bytes of a sharing: its s shares, then zeros
 unfoldable pub unpacked : ℕ → ℕ → ℕ → List ℕ
@@ -30,6 +25,11 @@ five_sum l = xor_below greatest_shares (λ j. get_or l j 0)
 
 abbrev pub five_zeros : List ℕ
 five_zeros = replicate greatest_shares 0
+
+-- what a run answers: the number of a refusal, or 0, and five shares
+pub record Ran : Type 0 where
+  pub reason : ℕ
+  pub shares : List ℕ
 
 -- a refusal answers its number and five zeros
 abbrev pub refused_run : ℕ → Ran

@@ -1,6 +1,6 @@
 // The outputs of a stage at all sharings, 64 together: those that differ in their lowest six bits alone. A term is looked at once for all of them: where the
 // upper bits have its upper variables it is a coefficient of its lower ones, and the sums over subsets of the coefficients are the outputs.
-ghost use Rattle.std.specs.Prelude.{◌≡◌, ◌*◌, ◌/◌, ◌%◌, ◌^◌, ◌≤◌, length, replicate};
+ghost use Rattle.std.specs.Prelude.{◌≡◌, ◌*◌, ◌/◌, ◌%◌, ◌^◌, length, replicate};
 ghost use Rattle.finite.specs.Tests.{tabulate};
 ghost use Rattle.records.specs.Inside.Terms.{terms_of};
 ghost use Rattle.design.specs.Inside.Lists.{lists_held};
@@ -70,7 +70,7 @@ pub struct Outputs<'a> {
 
 impl<'a> Outputs<'a> {
     ghost use Rattle.std.specs.Prelude.{length};
-    ghost use Rattle.threshold.specs.Stages.{output};
+    ghost use Rattle.sharing.specs.Stages.{output};
     ghost use Rattle.threshold.specs.Inside.Outputs.{left};
 
     /// Those of all sharings.

@@ -1,13 +1,27 @@
 // The output of a stage at a sharing, from the file's bytes, and the sum of a sharing.
 ghost use Rattle.std.specs.Prelude.{◌≡◌, ◌-◌, ◌*◌, ◌^◌, ◌≤◌, ◌<◌, length};
 ghost use Rattle.design.specs.Limits.{greatest_width};
-ghost use Rattle.design.specs.Design.{stage_of};
-ghost use Rattle.design.specs.Reading.{meaning};
+ghost use Rattle.records.specs.Design.{stage_of};
+ghost use Rattle.design.specs.Inside.Held.{design_of};
+ghost use Rattle.records.specs.Inside.Terms.{terms_of};
 ghost use Rattle.design.specs.Inside.Lists.{lists_held};
-ghost use Rattle.threshold.specs.Sharing.{sum};
-ghost use Rattle.threshold.specs.Stages.{output, component};
+ghost use Rattle.anf.specs.Terms.{value_at};
+ghost use Rattle.sharing.specs.Sharing.{sum};
+ghost use Rattle.sharing.specs.Stages.{output, component};
 
 use design::{DesignFile, Lists};
+use records::Terms;
+
+// The value of a list at `x`: how many of its terms are 1 there, modulo 2.
+fn value_of(list: &Terms<'_>, x: u32) -> u32
+    ensures { result ≡ value_at (terms_of list.now) x }
+{
+    let mut value: u32 = 0;
+    for term in list.iter() {
+        value ^= u32::from(term | x == x);
+    }
+    value
+}
 
 /// The output of the lists at the sharing `x`, from the last list down, by its number: no iterator goes over lists from the last, and
 /// one for this loop and that of `add_lists` would be no plainer.
@@ -16,7 +30,7 @@ pub fn output_of(lists: &Lists<'_>, x: u32) -> u32
 {
     let mut y: u32 = 0;
     for i in (0..lists.len()).rev() {
-        y = 2 * y + lists.list(i).value(x);
+        y = 2 * y + value_of(&lists.list(i), x);
     }
     y
 }
@@ -24,7 +38,7 @@ pub fn output_of(lists: &Lists<'_>, x: u32) -> u32
 /// What component `j` of stage `t` gives at the sharing `x`.
 pub fn component_at(design: &DesignFile<'_>, t: usize, j: usize, x: u32) -> u32
     requires { (t < design.now.head.k) × (j < design.now.head.s) }
-    ensures { (result ≡ component design.now.head.m (stage_of (meaning design.now.file.now) t).lists j x) × (result < 2 ^ design.now.head.m) }
+    ensures { (result ≡ component design.now.head.m (stage_of (design_of design.now) t).lists j x) × (result < 2 ^ design.now.head.m) }
 {
     let m = design.head.m;
     output_of(&design.lists(t).part(m * j, m), x)

@@ -1,9 +1,11 @@
 // Running stages and chains on five shares, the greatest number of them.
-ghost use Rattle.std.specs.Prelude.{◌≡◌, true, ◌*◌, ◌^◌, ◌≤◌, ◌<◌};
-ghost use Rattle.design.specs.Design.{stage_of};
-ghost use Rattle.design.specs.Reading.{meaning};
-ghost use Rattle.threshold.specs.Stages.{output};
-ghost use Rattle.threshold.specs.Running.{packed, unpacked, share_fits, shares_fit, running};
+ghost use Rattle.std.specs.Prelude.{◌≡◌, true, ◌*◌, ◌^◌, ◌<◌};
+ghost use Rattle.records.specs.Design.{stage_of};
+ghost use Rattle.design.specs.Reading.{means};
+ghost use Rattle.design.specs.Inside.Held.{design_of};
+ghost use Rattle.sharing.specs.Stages.{output};
+ghost use Rattle.sharing.specs.Sharing.{packed};
+ghost use Rattle.threshold.specs.Running.{unpacked, share_fits, shares_fit, running_on, running};
 ghost use Rattle.threshold.specs.Inside.Outcomes.{ran_of};
 
 use super::FiveShares;
@@ -46,7 +48,7 @@ fn pack(shares: FiveShares, head: Head) -> u32
 /// Stage `t` run on five shares: each component fills one place.
 pub fn run_stage(design: &DesignFile<'_>, t: usize, shares: FiveShares) -> FiveShares
     requires { (t < design.now.head.k) × (shares_fit design.now.head.m design.now.head.s shares ≡ true) }
-    ensures { result ≡ unpacked design.now.head.m design.now.head.s (output (stage_of (meaning design.now.file.now) t).lists (packed design.now.head.m design.now.head.s shares)) }
+    ensures { result ≡ unpacked design.now.head.m design.now.head.s (output (stage_of (design_of design.now) t).lists (packed design.now.head.m design.now.head.s shares)) }
 {
     let x = pack(shares, design.head);
     let mut out = [0u8; Head::GREATEST_SHARES];
@@ -58,7 +60,7 @@ pub fn run_stage(design: &DesignFile<'_>, t: usize, shares: FiveShares) -> FiveS
 
 // Runs the chain of a design.
 fn run_chain(design: &DesignFile<'_>, shares: FiveShares) -> Result<FiveShares, Reason>
-    ensures { ran_of result ≡ running design.now.file.now shares }
+    ensures { ran_of result ≡ running_on (means (design_of design.now)) shares }
 {
     if !shares_fit(shares, design.head) {
         return Err(Reason::BadShare);

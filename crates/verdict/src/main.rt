@@ -1,7 +1,6 @@
 // Reads a design file on standard input and prints the verdict: reason, place and component.
 #![tactic(auto)]
 
-use checker::Verdict;
 use reasons::Reason;
 use std::io;
 use std::io::Read;
@@ -22,6 +21,6 @@ fn main(rt: HostRuntime) -> io::Result<()> {
         return println!(rt; "{reason} 0 0");
     }
     let mut workspace = [0u8; WORKSPACE];
-    let verdict = Verdict::from(checker::judge(&input, &mut workspace).outcome);
+    let verdict = jestrunas::jestrunas_judge(&input, &mut workspace).verdict;
     println!(rt; "{verdict}")
 }

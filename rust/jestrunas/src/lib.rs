@@ -1,4 +1,5 @@
-//! Judges threshold-implementation sharings of S-boxes: a safe wrapper over the proved static library.
+//! Judges threshold-implementation sharings of S-boxes: a safe wrapper over the proved static library. docs/RULES.md has every rule by
+//! its number: (RULES 6) is its section 6.
 //!
 //! ```
 //! // One bit in three shares, S the identity: component 1 is share 2, component 2 is share 3, component 3 is share 1.
@@ -26,7 +27,7 @@ pub mod native;
 
 use std::fmt;
 
-/// Why an operation refused. The numbers are the published ones.
+/// Why an operation refused, by the published numbers (RULES 14).
 #[derive(Clone, Copy, Debug, PartialEq, Eq, Hash, PartialOrd, Ord)]
 #[repr(u8)]
 pub enum Reason {
@@ -157,7 +158,7 @@ pub struct Refusal {
     pub place: usize,
     /// For reason 13 the lowest component that depends on every share, counted from 1; otherwise 0.
     pub component: usize,
-    /// The trials that the verdict took up to the fault: for reasons 1 to 11 none, never more than those of the forecast.
+    /// The trials that the verdict took up to the fault: for reasons 1 to 10 none, never more than those of the forecast.
     pub trials: usize,
 }
 
@@ -258,7 +259,7 @@ pub const PLACEMENT_4: [u8; 14] = [4, 1, 4, 2, 2, 1, 4, 3, 3, 1, 3, 2, 2, 1];
 pub const PLACEMENT_5: [u8; 30] = [5, 1, 5, 2, 2, 1, 5, 3, 3, 1, 3, 2, 2, 1, 5, 4, 4, 1, 4, 2, 2, 1, 4, 3, 3, 1, 3, 2, 2, 1];
 
 /// The published placement for s shares: a product goes to the lowest component c outside its set of shares for which c + 1 (after s comes
-/// 1) is in the set. With it producing gives the direct sharing of the papers. Empty where s is none of 3, 4 and 5: producing then refuses
+/// 1) is in the set (RULES 9.5). Empty where s is none of 3, 4 and 5: producing then refuses
 /// with [`Reason::LimitBroken`], whatever the placement is.
 pub fn published_placement(s: usize) -> &'static [u8] {
     match s {

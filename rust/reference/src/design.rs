@@ -1,4 +1,4 @@
-//! The design file: what it means, reading and writing.
+//! The design file: what it means, reading and writing (RULES 4 and 5).
 
 use crate::within_limits;
 

@@ -1,4 +1,4 @@
-//! Joining two designs into one.
+//! Joining two designs into one (RULES 11).
 
 use crate::design::{encode, read, Design};
 use crate::produce::written;
@@ -9,7 +9,7 @@ fn joined(first: Design, second: Design) -> Design {
     Design { m: first.m, s: first.s, table, stages: [first.stages, second.stages].concat() }
 }
 
-/// Joins two files: the number and the length. The output becomes what the papers say it is afterwards.
+/// Joins two files: the number and the length. The output becomes what RULES 11.4 says.
 pub fn join(first: &[u8], second: &[u8], output: &mut [u8]) -> (usize, usize) {
     let (first, second) = match (read(first), read(second)) {
         (Err(fault), _) | (Ok(_), Err(fault)) => return (fault.reason, 0),

@@ -1,4 +1,4 @@
-//! The verdict with its trials, their forecast, and running a chain.
+//! The verdict with its trials, their forecast, and running a chain (RULES 6 to 8).
 
 use crate::design::{head, read, Design, Head, Shares, Stage};
 use crate::{repeats, Answer};
@@ -162,7 +162,7 @@ pub fn forecast(file: &[u8]) -> [usize; 3] {
     }
 }
 
-/// The verdict on a file; the workspace becomes what the papers say it is afterwards.
+/// The verdict on a file; the workspace becomes what RULES 6.4 says.
 pub fn judge(file: &[u8], workspace: &mut [u8]) -> Answer {
     let design = match read(file) {
         Ok(design) => design,

@@ -1,6 +1,6 @@
-//! A second implementation of the published operations, written from the papers and by brute force, so that it
+//! A second implementation of the published operations, written from docs/RULES.md and by brute force, so that it
 //! can be compared with the proved library. Nothing here is clever: a design is parsed into plain structures, a
-//! component is a function that is called at every sharing, and each property is tested as the papers word it.
+//! component is a function that is called at every sharing, and each property is tested as the rules word it.
 
 mod design;
 mod join;

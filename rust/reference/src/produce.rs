@@ -1,4 +1,4 @@
-//! The direct sharing.
+//! The direct sharing, and producing (RULES 9 and 10).
 
 use crate::design::{encode, Design, Product, Shares, Stage};
 use crate::transform::coefficient;
@@ -88,7 +88,7 @@ pub(crate) fn written(file: &[u8], output: &mut [u8]) -> (usize, usize) {
     (0, file.len())
 }
 
-/// Produces a file: the number and the length. The output becomes what the papers say it is afterwards.
+/// Produces a file: the number and the length. The output becomes what RULES 10.3 says.
 pub fn produce(m: usize, s: usize, table: &[u8], placement: &[u8], output: &mut [u8]) -> (usize, usize) {
     if !within_limits(m, s) {
         return (4, 0);

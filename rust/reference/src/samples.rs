@@ -53,7 +53,7 @@ pub fn placed(m: usize, table: &[u8]) -> Design {
     Design { m, s: 4, table: table.to_vec(), stages: vec![direct_sharing(m, 4, table, &PLACEMENT)] }
 }
 
-/// D of the papers: one bit in three shares, lists {2}, {4}, {1}.
+/// D, the smallest design: one bit in three shares, lists {2}, {4}, {1}.
 pub fn d() -> Design {
     chain(1, 3, &[&[0, 1]])
 }

@@ -1,4 +1,4 @@
-//! The transform between a table and the coefficient words of its algebraic normal form.
+//! The transform between a table and its coefficient words (RULES 12).
 
 /// Whether set v is a subset of set u.
 fn within(v: usize, u: usize) -> bool {

@@ -1,4 +1,4 @@
-//! The bench designs of the papers, with the answers that the papers give.
+//! The bench designs, D and its variants and published boxes, with the answers that are due.
 
 use reference::samples::{
     bits_apart, chain, cubic, d, full, keccak_row, leaking, linear, one_bit, six_bits, twenty_share_bits, PLACEMENT, PRESENT,

@@ -1,5 +1,5 @@
 -- `anf::transform` meets its contract: each way out is a law of `Answers`, whose premises `search` finds among what is known there.
-use Rattle.anf.proofs.Answers.{answered, no_width, uneven, large, short, done}
+use Rattle.anf.proofs.TransformAnswer.{answered, no_width, uneven, large, short, done}
 use Rattle.anf.proofs.transform.Goals as goal
 
 pub returns-then-m-lt1 : goal.returns-then-m-lt1

@@ -1,5 +1,5 @@
 use Rattle.std.proofs.Common.{rules}
-use Rattle.anf.proofs.Turning.{degree_start, degree_same, degree_more, degree_end}
+use Rattle.anf.proofs.WordDegree.{degree_start, degree_same, degree_more, degree_end}
 use Rattle.anf.proofs.words_degree.Goals.{then-word-ne0, else-word-ne0}
 use Rattle.anf.proofs.words_degree.Goals as goal
 

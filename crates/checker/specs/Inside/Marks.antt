@@ -2,6 +2,7 @@
 use Rattle.std.specs.Prelude.{ℕ, ◌/◌, ◌%◌, ◌^◌, ◌<◌, ◌≤◌, ◌≡◌, List, Bool, false, length, get_or, set}
 use Rattle.std.specs.Int.Bits.{bit_or}
 use Rattle.finite.specs.Sets.{has}
+use Rattle.records.specs.Design.{Design}
 use Rattle.checker.specs.Verdict.{workspace_for, zeroed}
 
 -- y is marked
@@ -16,6 +17,6 @@ mark l y = set l (y / 8) (bit_or (get_or l (y / 8) 0) (2 ^ (y % 8)))
 abbrev pub Clear : ℕ → List ℕ → Type 0
 Clear n l = (y : ℕ) → y < n → marked l y ≡ false
 
--- a workspace with room for a mark of each sharing, all of them zero
-abbrev pub Cleared : ℕ → ℕ → List ℕ → Type 0
-Cleared m s ws = (workspace_for m s ≤ length ws) × (zeroed (workspace_for m s) ws ≡ ws)
+-- a workspace with room for a mark of each sharing of a design, all of them zero
+abbrev pub Cleared : Design → List ℕ → Type 0
+Cleared d ws = (workspace_for d.m d.s ≤ length ws) × (zeroed (workspace_for d.m d.s) ws ≡ ws)

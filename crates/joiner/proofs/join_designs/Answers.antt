@@ -1,7 +1,8 @@
 -- `joiner::join_designs` meets its contract: one law for each way out. The boxes and the stages of both are parts of their files, and what is written of them is
 -- the joined file.
 use Rattle.std.proofs.Common.{arith}
-use Rattle.joiner.proofs.Leaving.{answered, other_width, other_shares, too_many, head_within, first_box, second_box, joins_answer, joins_output}
+use Rattle.records.proofs.Producing.{answered}
+use Rattle.joiner.proofs.JoiningDesigns.{other_width, other_shares, too_many, head_within, first_box, second_box, joins_answer, joins_output}
 use Rattle.joiner.proofs.join_designs.Goals.{then-a-b-via-then-a-b, then-a-b-via-else-a-b+then-a-b-2}
 use Rattle.joiner.proofs.join_designs.Goals as goal
 

@@ -3,10 +3,9 @@ use Rattle.std.specs.Prelude.{ℕ, Option, Some, None, ◌≤◌, ◌<◌, List,
 use Rattle.finite.specs.Tests.{pick}
 use Rattle.anf.specs.Tables.{entry}
 use Rattle.records.specs.Records.{a_record, end_record}
-use Rattle.records.specs.Writing.{writing_answer, writing_after}
-use Rattle.records.specs.declared.Produced.{Produced}
+use Rattle.records.specs.Writing.{Produced, writing_answer, writing_after}
 use Rattle.design.specs.Limits.{greatest_points}
-use Rattle.design.specs.Design.{TableFits}
+use Rattle.anf.specs.Tables.{TableFits}
 
 -- every entry of the table t has an entry in the table u
 pub record Through (t u : List ℕ) : Type 0 where

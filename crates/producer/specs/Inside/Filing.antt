@@ -2,7 +2,7 @@
 use Rattle.std.specs.Prelude.{ℕ, ◌*◌, ◌^◌, List, [], ◌∷◌, ◌++◌, get_or}
 use Rattle.records.specs.Records.{a_record}
 use Rattle.design.specs.Limits.{greatest_width, greatest_shares, greatest_points}
-use Rattle.design.specs.Encode.{encode}
+use Rattle.records.specs.Encode.{encode}
 use Rattle.direct.specs.Direct.{direct_lists}
 
 -- the records before the lists: the head, S and G, which are equal

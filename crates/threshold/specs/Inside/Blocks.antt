@@ -3,7 +3,7 @@ use Rattle.std.specs.Prelude.{ℕ, ◌+◌, ◌*◌, ◌/◌, ◌%◌, ◌^◌, 
 use Rattle.std.specs.Int.Bits.{bit_xor}
 use Rattle.finite.specs.Tests.{pick, tabulate}
 use Rattle.finite.specs.Sets.{subset}
-use Rattle.threshold.specs.Stages.{output}
+use Rattle.sharing.specs.Stages.{output}
 
 -- the outputs at the 64 sharings from σ on
 unfoldable pub outputs_from : List (List ℕ) → ℕ → List ℕ

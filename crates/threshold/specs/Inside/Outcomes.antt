@@ -2,8 +2,7 @@
 use Rattle.std.specs.Prelude.{ℕ, List, Result, Ok, Err}
 use Rattle.reasons.specs.Numbers.{number}
 use Rattle.reasons.specs.declared.Reason.{Reason}
-use Rattle.threshold.specs.Running.{refused_run}
-use Rattle.threshold.specs.declared.Ran.{Ran}
+use Rattle.threshold.specs.Running.{Ran, refused_run}
 
 -- success answers 0 and the shares
 abbrev pub finished : List ℕ → Ran

@@ -2,7 +2,7 @@
 use Rattle.std.specs.Prelude.{ℕ, ◌+◌, ◌-◌, ◌^◌, List, length}
 use Rattle.finite.specs.Tests.{tabulate}
 use Rattle.design.specs.Inside.Lists.{lists_held}
-use Rattle.threshold.specs.Stages.{output}
+use Rattle.sharing.specs.Stages.{output}
 use Rattle.threshold.specs.declared.blocks.Outputs.{Outputs}
 
 -- those of the sharings from x on

@@ -1,4 +1,4 @@
-//! Writes data/files.txt to standard output: the bench designs of the papers that are whole files, and the worked
+//! Writes data/files.txt to standard output: the bench designs that are whole files, and the worked
 //! designs, as lines `file HEX` for `rows`, in this order.
 
 use reference::samples::{

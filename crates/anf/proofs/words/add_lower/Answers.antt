@@ -1,4 +1,4 @@
-use Rattle.anf.proofs.InPlace.{words_start, words_more, words_end}
+use Rattle.anf.proofs.WordSums.{words_start, words_more, words_end}
 use Rattle.anf.proofs.words.add_lower.Goals as goal
 
 pub loop-i-init : goal.loop-i-init

@@ -1,5 +1,5 @@
 -- `anf::words::add_lower` meets its contract. The loop's invariant: the sums passed are written over the upper half.
-use Rattle.anf.proofs.InPlace.{AddedTo}
+use Rattle.anf.proofs.WordSums.{AddedTo}
 use Rattle.anf.proofs.words.add_lower.Given as goal
 
 abbrev pub invariant-loop-i : goal.invariant-loop-i

@@ -1,7 +1,7 @@
 use Rattle.std.proofs.Common.{rules, ◌+◌, ◌*◌, ◌≤◌, length, arith}
 use borrow.Author.Rules.{scaled_fits≤}
 use lib.Pow.{pow_pos}
-use Rattle.anf.proofs.InPlace.{blocks_start, blocks_more, block_ends}
+use Rattle.anf.proofs.WordSums.{blocks_start, blocks_more, block_ends}
 use Rattle.anf.proofs.words.add_variable.Goals as goal
 
 pub loop-block-init : goal.loop-block-init

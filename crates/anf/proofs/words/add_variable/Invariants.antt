@@ -1,6 +1,6 @@
 -- `anf::words::add_variable` meets its contract. The loop's invariant: the blocks passed are summed over variable k.
 use Rattle.std.proofs.Common.{◌*◌}
-use Rattle.anf.proofs.InPlace.{SummedTo}
+use Rattle.anf.proofs.WordSums.{SummedTo}
 use Rattle.anf.proofs.words.add_variable.Given as goal
 
 abbrev pub invariant-loop-block : goal.invariant-loop-block

@@ -1,7 +1,7 @@
 -- `first_met_in` meets its contract: the outputs of the sharings passed are marked, none of them twice.
 use Rattle.std.proofs.Common.{◌^◌, length}
 use Rattle.design.specs.Inside.Lists.{lists_held}
-use Rattle.threshold.specs.Stages.{output}
+use Rattle.sharing.specs.Stages.{output}
 use Rattle.checker.proofs.Marking.{MarkedTo}
 use Rattle.checker.proofs.stages.first_met_in.Given as goal
 

@@ -3,7 +3,7 @@ use Rattle.std.proofs.Common.{ℕ, Bool, ◌∙◌, refl, rules, tests, arith}
 use Rattle.std.proofs.lemmas.Iterator.{YieldsList-from_range}
 use Rattle.std.proofs.lemmas.Iterator.Search.{all_from_yields_List}
 use Rattle.anf.specs.Terms.{named}
-use Rattle.threshold.specs.Inside.Variables.{variables, names_every}
+use Rattle.sharing.specs.Inside.Variables.{variables, names_every}
 use Rattle.finite.proofs.Lists.{all_range}
 use Rattle.checker.proofs.stages.names_every.Goals as goal
 

@@ -1,6 +1,6 @@
 use Rattle.std.proofs.Common.{◌≡◌, refl, rules}
 use Rattle.records.specs.Inside.Terms.{terms_of, left}
-use Rattle.threshold.proofs.Sharing.{place_lt}
+use Rattle.sharing.proofs.Sharing.{place_lt}
 use Rattle.checker.proofs.EveryShare.{no_component_yet, lists_start, terms_start, terms_more, lists_more, no_component_more, offending_found, offending_none}
 use Rattle.checker.proofs.EveryShare.{place_fits_64, place_fits}
 use Rattle.checker.proofs.stages.offending.Goals as goal
@@ -32,10 +32,10 @@ pub loop-b-preserved : goal.loop-b-preserved
 loop-b-preserved c = search (lists_more, c.in-None.ensures.steps.0)
 
 pub components-preserved : goal.components-preserved
-components-preserved c = search no_component_more
+components-preserved c = search (no_component_more, c.args.design.now.formed.stage)
 
 pub returns-after-components : goal.returns-after-components
 returns-after-components c = search offending_none
 
 pub returns-then-names_every : goal.returns-then-names_every
-returns-then-names_every c = search (offending_found, c.in-Some.ensures.steps) fits 8000
+returns-then-names_every c = search (offending_found, c.args.design.now.formed.stage, c.in-Some.ensures.steps) fits 8000

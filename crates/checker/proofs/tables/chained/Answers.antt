@@ -1,4 +1,4 @@
-use Rattle.threshold.proofs.Tables.{chained_none}
+use Rattle.sharing.proofs.Tables.{chained_none}
 use Rattle.checker.proofs.Chaining.{chained_within, chained_step, chained_end}
 use Rattle.checker.proofs.tables.chained.Goals as goal
 

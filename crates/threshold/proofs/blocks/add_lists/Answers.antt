@@ -1,4 +1,4 @@
-use Rattle.threshold.proofs.Together.{added_start, added_more, added_end}
+use Rattle.threshold.proofs.BlockOutputs.{added_start, added_more, added_end}
 use Rattle.threshold.proofs.blocks.add_lists.Goals as goal
 
 pub loop-i-init : goal.loop-i-init

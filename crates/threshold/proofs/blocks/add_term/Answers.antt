@@ -1,5 +1,5 @@
 -- `add_term`: each way out is a law of `Together`.
-use Rattle.threshold.proofs.Together.{term_there, term_absent}
+use Rattle.threshold.proofs.BlockOutputs.{term_there, term_absent}
 use Rattle.threshold.proofs.blocks.add_term.Goals as goal
 
 pub returns-then-upper-high : goal.returns-then-upper-high

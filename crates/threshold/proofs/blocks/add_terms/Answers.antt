@@ -1,4 +1,4 @@
-use Rattle.threshold.proofs.Together.{terms_more, terms_end}
+use Rattle.threshold.proofs.BlockOutputs.{terms_more, terms_end}
 use Rattle.threshold.proofs.blocks.add_terms.Goals as goal
 
 pub loop-term-preserved : goal.loop-term-preserved

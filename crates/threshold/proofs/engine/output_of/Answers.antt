@@ -1,4 +1,4 @@
-use Rattle.threshold.proofs.Evaluating.{from_start, from_fits, from_more, from_end, from_lt}
+use Rattle.threshold.proofs.EngineValues.{from_start, from_fits, from_more, from_end, from_lt}
 use Rattle.threshold.proofs.engine.output_of.Goals as goal
 
 pub loop-i-init : goal.loop-i-init

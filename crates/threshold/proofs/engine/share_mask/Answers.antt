@@ -1,5 +1,5 @@
 -- `threshold::share_mask` meets its contract.
-use Rattle.threshold.proofs.Evaluating.{some_values, mask_fits}
+use Rattle.threshold.proofs.EngineValues.{some_values, mask_fits}
 use Rattle.threshold.proofs.engine.share_mask.Goals as goal
 
 pub overflow_sub-result : goal.overflow_sub-result

@@ -1,5 +1,5 @@
 use Rattle.std.proofs.Math.Nat.{sub-zero}
-use Rattle.threshold.proofs.Evaluating.{sum_more, sum_end, sum_small}
+use Rattle.threshold.proofs.EngineValues.{sum_more, sum_end, sum_small}
 use Rattle.threshold.proofs.engine.sum_of.Goals as goal
 
 pub loop-init : goal.loop-init

@@ -1,7 +1,7 @@
 -- `sum_of`: what is summed so far, with the sum of the shares that are left, is the sum of all.
 use Rattle.std.proofs.Common.{◌≡◌, ◌-◌, ◌^◌}
 use lib.Bits.{bit_and, bit_xor}
-use Rattle.threshold.specs.Sharing.{sum}
+use Rattle.sharing.specs.Sharing.{sum}
 use Rattle.threshold.proofs.engine.sum_of.Given as goal
 
 abbrev pub invariant-loop : goal.invariant-loop

@@ -1,4 +1,4 @@
-use Rattle.threshold.proofs.Sending.{pack_start, place_of_five, shift_number, shift_fits, shift_small, pack_fits, pack_more, pack_end, pack_small}
+use Rattle.threshold.proofs.ChainRuns.{pack_start, place_of_five, shift_number, shift_fits, shift_small, pack_fits, pack_more, pack_end, pack_small}
 use Rattle.threshold.proofs.runs.pack.Goals as goal
 
 pub loop-j-init : goal.loop-j-init

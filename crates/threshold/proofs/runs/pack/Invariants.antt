@@ -1,6 +1,6 @@
 -- `pack`: x is the sharing of the shares below j.
 use Rattle.std.proofs.Common.{◌≡◌}
-use Rattle.threshold.specs.Running.{packed}
+use Rattle.sharing.specs.Sharing.{packed}
 use Rattle.threshold.proofs.runs.pack.Given as goal
 
 abbrev pub invariant-loop-j : goal.invariant-loop-j

@@ -1,4 +1,4 @@
-use Rattle.threshold.proofs.Sending.{unfit, run_start, run_fits, run_more, run_end}
+use Rattle.threshold.proofs.ChainRuns.{unfit, run_start, run_fits, run_more, run_end}
 use Rattle.threshold.proofs.runs.run_chain.Goals as goal
 
 pub returns-then-not-shares_fit : goal.returns-then-not-shares_fit

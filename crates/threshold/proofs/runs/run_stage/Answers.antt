@@ -1,4 +1,4 @@
-use Rattle.threshold.proofs.Sending.{out_start, share_byte, place_of_five, out_more, out_end}
+use Rattle.threshold.proofs.ChainRuns.{out_start, share_byte, place_of_five, out_more, out_end}
 use Rattle.threshold.proofs.runs.run_stage.Goals as goal
 
 pub loop-j-init : goal.loop-j-init

@@ -1,4 +1,4 @@
-use Rattle.threshold.proofs.Sending.{share_used, share_unused}
+use Rattle.threshold.proofs.ChainRuns.{share_used, share_unused}
 use Rattle.threshold.proofs.runs.share_fits.Goals as goal
 
 pub returns-then-j-head : goal.returns-then-j-head

@@ -1,7 +1,7 @@
 -- `design::DesignFile::table` meets its contract: a stage's table is a part of the file.
 use Rattle.std.proofs.Common.{arith}
 use Rattle.design.proofs.Found.{limits}
-use Rattle.design.proofs.Taking.{table_fits, table_there, table_is}
+use Rattle.design.proofs.Taking.{table_fits, table_there, table_is, slice_length}
 use Rattle.design.proofs.files.DesignFile.table.Goals as goal
 
 pub number-requires : goal.number-requires
@@ -14,4 +14,4 @@ pub slice_bounds-result-end : goal.slice_bounds-result-end
 slice_bounds-result-end c = search table_there
 
 pub returns : goal.returns
-returns c = search table_is
+returns c = search (table_is, slice_length, table_there)

@@ -1,5 +1,5 @@
 -- `Outputs::new`: all outputs are left.
-use Rattle.threshold.proofs.Together.{outputs_all}
+use Rattle.threshold.proofs.BlockOutputs.{outputs_all}
 use Rattle.threshold.proofs.blocks.Outputs.new.Goals as goal
 
 pub returns : goal.returns

@@ -1,5 +1,5 @@
 -- `next`: nothing is left past the last sharing; else the first that is left stands in its block.
-use Rattle.threshold.proofs.Together.{outputs_none, output_given, fewer_left}
+use Rattle.threshold.proofs.BlockOutputs.{outputs_none, output_given, fewer_left}
 use Rattle.threshold.proofs.blocks.OutputsIterator.next.Goals as goal
 
 pub returns-then-x-len-ne0-clause-steps : goal.returns-then-x-len-ne0-clause-steps

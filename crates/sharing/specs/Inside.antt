@@ -1,0 +1,2 @@
+-- What only contracts inside the crates need: no published contract and no promise rests on it.
+pub mod Variables
