@@ -103,4 +103,5 @@ pub const JSON: Switch = Switch::flag(&["--json"], "prints the answer as an obje
 pub const OUTPUT: Switch =
     Switch::valued(&["-o", "--output"], "FILE", "the file that is written, as a whole or not at all").due().offers(Words::Files);
 
+/// A design file, or a text.
 pub const DESIGN: Operand = Operand::one("FILE", "a design file").offers(Words::Files);

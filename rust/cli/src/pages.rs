@@ -15,7 +15,7 @@ pub const VERSION: &str = concat!("jestrunas ", env!("CARGO_PKG_VERSION"), "\n")
 const TITLE: &str = "threshold-implementation sharings of S-boxes";
 
 const STREAMS: &str = "\
-'-' is standard input or output. A file is written as a whole or not at all, and never over an input. 'jestrunas help COMMAND' says more.";
+A design is a file or a text (docs/TEXT.md), and '-' is standard input or output. A file is written as a whole or not at all, and never over an input. 'jestrunas help COMMAND' says more.";
 
 const STATUS: &str = "\
 0 done, and for 'judge' all accepted; 1 an input is refused; 2 wrong use, or a file that cannot be read or written.";

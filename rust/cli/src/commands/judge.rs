@@ -16,8 +16,8 @@ pub const JUDGE: Command = Command {
     name: "judge",
     about: "the verdict on each design file",
     text: "\
-Judges design files. Prints a line a file: its reason, place and component, the trials that the verdict took, and the verdict in words. \
-With --json each line is an object of JSON: file, reason, place, component, trials, words; or file, error where the file cannot be had.",
+Judges designs, files or texts. Prints a line for each: its reason, place and component, the trials that the verdict took, and the verdict in words. \
+With --json each line is an object of JSON: file, reason, place, component, trials, words; or file, error where it cannot be had.",
     operands: &[Operand::some("FILE", "a design file").offers(Words::Files)],
     options: &[
         Switch::flag(&["--why"], "tells in one more line what of a refused design is the cause"),
