@@ -1,19 +1,15 @@
-//! The words behind a command: options and operands.
+//! The words behind a command: options and operands, as its entry has them.
 
+use crate::command::{Command, Count, Switch, COMMON};
 use crate::failure::Failure;
 use crate::files::shown;
+use crate::near;
 use std::ffi::{OsStr, OsString};
-
-/// What a command takes: options with a value, and options without one.
-pub struct Options {
-    pub valued: &'static [&'static str],
-    pub plain: &'static [&'static str],
-}
+use std::os::unix::ffi::OsStrExt;
 
 pub struct Arguments {
     pub operands: Vec<OsString>,
-    values: Vec<(&'static str, OsString)>,
-    plain: Vec<&'static str>,
+    options: Vec<(&'static str, Option<OsString>)>,
 }
 
 fn misused<T>(words: String) -> Result<T, Failure> {
@@ -21,55 +17,111 @@ fn misused<T>(words: String) -> Result<T, Failure> {
 }
 
 impl Arguments {
-    /// Parts the words: behind `--` all are operands, and `-` is one.
-    pub fn of(words: &[OsString], options: &Options) -> Result<Arguments, Failure> {
-        let mut found = Arguments { operands: Vec::new(), values: Vec::new(), plain: Vec::new() };
+    /// Parts the words: behind `--` all are operands, and `-` is one. A value stands in the next word, or behind `=` of a long name, or
+    /// right behind a short one.
+    pub fn of(words: &[OsString], command: &Command) -> Result<Arguments, Failure> {
+        let mut found = Arguments { operands: Vec::new(), options: Vec::new() };
         let mut words = words.iter();
         while let Some(word) = words.next() {
-            let text = word.to_string_lossy();
-            let known = |names: &[&'static str]| names.iter().copied().find(|&name| name == text);
+            let bytes = word.as_bytes();
             if word == "--" {
                 found.operands.extend(words.by_ref().cloned());
-            } else if word == "-" || !text.starts_with('-') {
+            } else if word == "-" || !bytes.starts_with(b"-") {
                 found.operands.push(word.clone());
-            } else if let Some(name) = known(options.plain) {
-                found.plain.push(name);
-            } else if let Some(name) = known(options.valued) {
-                let Some(value) = words.next() else { return misused(format!("{name} has no value")) };
-                if found.value(name).is_some() {
-                    return misused(format!("{name} stands twice"));
-                }
-                found.values.push((name, value.clone()));
             } else {
-                return misused(format!("there is no option {}", shown(word)));
+                let (name, value) = parted(bytes);
+                let Some(switch) = switches(command).find(|switch| switch.names.iter().any(|known| known.as_bytes() == name))
+                else {
+                    return misused(unknown(word, command));
+                };
+                found.take(switch, value.map(OsStr::to_owned), &mut words)?;
             }
         }
         Ok(found)
     }
 
-    pub fn has(&self, name: &str) -> bool {
-        self.plain.contains(&name)
-    }
-
-    pub fn value(&self, name: &str) -> Option<&OsStr> {
-        self.values.iter().find(|(of, _)| *of == name).map(|(_, value)| value.as_os_str())
-    }
-
-    /// The value of an option that is due.
-    pub fn due(&self, name: &str) -> Result<&OsStr, Failure> {
-        self.value(name).map_or_else(|| misused(format!("{name} is due")), Ok)
-    }
-
-    /// The operands, which are due as these are named, and no more.
-    pub fn exactly<const N: usize>(&self, names: [&str; N]) -> Result<[&OsStr; N], Failure> {
-        if let Some(name) = names.get(self.operands.len()) {
-            return misused(format!("{name} is due"));
+    fn take<'a>(
+        &mut self,
+        switch: &Switch,
+        value: Option<OsString>,
+        words: &mut impl Iterator<Item = &'a OsString>,
+    ) -> Result<(), Failure> {
+        let key = switch.names[0];
+        let value = match (switch.value, value) {
+            (None, None) => None,
+            (None, Some(_)) => return misused(format!("{key} takes no value")),
+            (Some(_), Some(value)) => Some(value),
+            (Some(_), None) => match words.next() {
+                Some(value) => Some(value.clone()),
+                None => return misused(format!("{key} has no value")),
+            },
+        };
+        if value.is_some() && self.has(key) {
+            return misused(format!("{key} stands twice"));
         }
-        if let Some(extra) = self.operands.get(N) {
+        self.options.push((key, value));
+        Ok(())
+    }
+
+    /// Refuses what the command's entry does not have: an operand or a due option that is left out, an operand too many.
+    pub fn check(&self, command: &Command) -> Result<(), Failure> {
+        let due: Vec<_> = command.operands.iter().filter(|operand| operand.count != Count::Optional).collect();
+        if let Some(operand) = due.get(self.operands.len()) {
+            return misused(format!("{} is due", operand.what));
+        }
+        let many = command.operands.last().is_some_and(|operand| operand.count == Count::Some);
+        if let Some(extra) = self.operands.get(command.operands.len()).filter(|_| !many) {
             return misused(format!("'{}' is one word too many", shown(extra)));
         }
-        Ok(std::array::from_fn(|i| self.operands[i].as_os_str()))
+        match command.options.iter().find(|switch| switch.due && !self.has(switch.names[0])) {
+            Some(switch) => misused(format!("{} is due", switch.names[0])),
+            None => Ok(()),
+        }
     }
+
+    /// Whether an option was given, by the first of its names.
+    pub fn has(&self, name: &str) -> bool {
+        self.options.iter().any(|(of, _)| *of == name)
+    }
+
+    /// The value of an option, by the first of its names.
+    pub fn value(&self, name: &str) -> Option<&OsStr> {
+        self.options.iter().find(|(of, _)| *of == name).and_then(|(_, value)| value.as_deref())
+    }
+
+    /// The value of an option that its command's entry calls due.
+    pub fn due(&self, name: &str) -> &OsStr {
+        self.value(name).expect("a due option is there")
+    }
+
+    /// Operand i, counted from 0, which its command's entry calls due.
+    pub fn operand(&self, i: usize) -> &OsStr {
+        &self.operands[i]
+    }
+}
+
+fn switches(command: &Command) -> impl Iterator<Item = &Switch> {
+    command.options.iter().chain(&COMMON)
+}
+
+/// The name of an option, and the value in the same word: `--seed=7`, `-m3`.
+fn parted(word: &[u8]) -> (&[u8], Option<&OsStr>) {
+    let end = if word.starts_with(b"--") { word.iter().position(|&byte| byte == b'=') } else { Some(2) };
+    match end.filter(|&end| end < word.len()) {
+        None => (word, None),
+        Some(end) => {
+            let value = &word[end..];
+            (&word[..end], Some(OsStr::from_bytes(value.strip_prefix(b"=").unwrap_or(value))))
+        }
+    }
+}
+
+/// What is told of an option that the command does not have.
+fn unknown(word: &OsStr, command: &Command) -> String {
+    let text = shown(word);
+    let name = text.split('=').next().unwrap_or_default();
+    let names = switches(command).flat_map(|switch| switch.names).copied().filter(|name| name.starts_with("--"));
+    format!("there is no option {name}{}", near::hint(name, names))
 }
 
 /// A number in decimal. One too large to be held breaks every limit, as the largest does.
@@ -80,30 +132,4 @@ pub fn number(name: &str, word: &OsStr) -> Result<usize, Failure> {
         }
         _ => misused(format!("{name} is a number, and '{}' is none", shown(word))),
     }
-}
-
-/// Digits of this kind, hexadecimal or decimal.
-fn digits(name: &str, word: &OsStr, kind: &str, radix: u32) -> Result<Vec<u8>, Failure> {
-    let digit = |c: char| match c.to_digit(radix) {
-        Some(digit) => Ok(digit as u8),
-        None => misused(format!("{name} has {kind} digits alone, and '{}' is none", c.escape_debug())),
-    };
-    word.to_string_lossy().chars().map(digit).collect()
-}
-
-/// A table, or coefficient words: hexadecimal, an entry one digit, or two where m is above 4.
-pub fn table(name: &str, word: &OsStr, m: usize) -> Result<Vec<u8>, Failure> {
-    let digits = digits(name, word, "hexadecimal", 16)?;
-    if m <= 4 {
-        return Ok(digits);
-    }
-    if digits.len() % 2 == 1 {
-        return misused(format!("{name} has two digits an entry, as m is above 4, and the last entry has one"));
-    }
-    Ok(digits.chunks(2).map(|two| 16 * two[0] + two[1]).collect())
-}
-
-/// A placement: decimal, a byte one digit.
-pub fn placement(name: &str, word: &OsStr) -> Result<Vec<u8>, Failure> {
-    digits(name, word, "decimal", 10)
 }

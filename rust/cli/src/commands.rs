@@ -1,176 +1,123 @@
-//! The commands.
+//! The commands, and which of them the words behind `jestrunas` ask for.
 
-use crate::arguments::{number, placement, table, Arguments, Options};
+mod assemble;
+mod completions;
+mod explain;
+mod forecast;
+mod help;
+mod join;
+mod judge;
+mod man;
+mod produce;
+mod run;
+mod transform;
+
+use crate::arguments::Arguments;
+use crate::command::Command;
 use crate::design::Design;
 use crate::failure::{tell, Failure, DONE};
-use crate::{files, help, judge, text};
-use jestrunas::{published_placement, Reason, SHARES_MAX};
+use crate::input::Input;
+use crate::json::Object;
+use crate::{files, near, pages};
 use std::ffi::{OsStr, OsString};
 use std::process::ExitCode;
 
-/// A command: its name, the page that `--help` prints, the options that it takes, and what it does. It answers an exit status.
-pub struct Command {
-    pub name: &'static str,
-    pub page: &'static str,
-    options: Options,
-    run: fn(&Arguments) -> Result<u8, Failure>,
-}
-
-const NONE: Options = Options { valued: &[], plain: &["--help"] };
-const OUTPUT: Options = Options { valued: &["-o"], plain: &["--help"] };
-
-pub const COMMANDS: [Command; 8] = [
-    Command {
-        name: "judge",
-        page: help::JUDGE,
-        options: Options { valued: &[], plain: &["--help", "--json"] },
-        run: judge::judge,
-    },
-    Command { name: "explain", page: help::EXPLAIN, options: NONE, run: explain },
-    Command { name: "assemble", page: help::ASSEMBLE, options: OUTPUT, run: assemble },
-    Command {
-        name: "produce",
-        page: help::PRODUCE,
-        options: Options { valued: &["-m", "-s", "--placement", "-o"], plain: &["--help"] },
-        run: produce,
-    },
-    Command { name: "run", page: help::RUN, options: NONE, run: run_chain },
-    Command { name: "forecast", page: help::FORECAST, options: NONE, run: forecast },
-    Command { name: "join", page: help::JOIN, options: OUTPUT, run: join },
-    Command { name: "transform", page: help::TRANSFORM, options: NONE, run: transform },
+/// Every command, as help lists them.
+pub static COMMANDS: [Command; 11] = [
+    judge::JUDGE,
+    explain::EXPLAIN,
+    assemble::ASSEMBLE,
+    produce::PRODUCE,
+    run::RUN,
+    forecast::FORECAST,
+    join::JOIN,
+    transform::TRANSFORM,
+    help::HELP,
+    completions::COMPLETIONS,
+    man::MAN,
 ];
 
 /// What the words behind `jestrunas` ask for. What went wrong is told on standard error.
 pub fn run(words: &[OsString]) -> ExitCode {
-    let (name, done) = match words.split_first() {
-        None => ("jestrunas", Err(Failure::Misused("a command is due".to_owned()))),
-        Some((first, _)) if first == "--help" => ("jestrunas", help::print(help::ALL)),
-        Some((first, words)) => match COMMANDS.iter().find(|command| first == command.name) {
-            Some(command) => (command.name, command.start(words)),
-            None => ("jestrunas", Err(Failure::Misused(format!("there is no command {}", files::shown(first))))),
-        },
-    };
+    let (command, json, done) = start(words);
     let failure = match done {
         Ok(status) => return ExitCode::from(status),
         Err(failure) => failure,
     };
     match &failure {
-        Failure::Refused(words) | Failure::Unavailable(words) => tell(&format!("jestrunas: {words}\n")),
-        Failure::Misused(words) => tell(&help::misused(name, words)),
-        Failure::Unread => {}
+        Failure::Misused(words) => tell(&pages::misused(command, words)),
+        // where JSON cannot be printed, the status still says it
+        other => drop(other.tell(json)),
     }
     ExitCode::from(failure.status())
 }
 
-impl Command {
-    fn start(&self, words: &[OsString]) -> Result<u8, Failure> {
-        let arguments = Arguments::of(words, &self.options)?;
-        if arguments.has("--help") {
-            return help::print(self.page);
-        }
-        (self.run)(&arguments)
+/// The command that the words name, whether it answers in JSON, and how it ended.
+fn start(words: &[OsString]) -> (Option<&'static Command>, bool, Result<u8, Failure>) {
+    let none = |done| (None, false, done);
+    let Some((first, words)) = words.split_first() else {
+        return none(Err(Failure::Misused("a command is due".to_owned())));
+    };
+    if first == "--help" || first == "-h" {
+        return none(files::answer(&pages::all()));
+    }
+    if first == "--version" || first == "-V" {
+        return none(files::answer(pages::VERSION));
+    }
+    let command = match named(first) {
+        Ok(command) => command,
+        Err(failure) => return none(Err(failure)),
+    };
+    match Arguments::of(words, command) {
+        Ok(arguments) => (Some(command), arguments.has("--json"), obey(command, &arguments)),
+        Err(failure) => (Some(command), false, Err(failure)),
     }
 }
 
-/// The first bytes of an input, all that its operation can need.
-fn read(name: &OsStr) -> Result<Vec<u8>, Failure> {
-    files::input(name, files::DESIGN).map_err(|error| Failure::unavailable(name, error))
+fn obey(command: &Command, arguments: &Arguments) -> Result<u8, Failure> {
+    if arguments.has("--help") {
+        return files::answer(&pages::page(command));
+    }
+    if arguments.has("--version") {
+        return files::answer(pages::VERSION);
+    }
+    arguments.check(command)?;
+    (command.run)(arguments)
 }
 
-/// A refusal by its number and its words, where no file is to blame.
-fn refused(reason: Reason) -> Failure {
-    Failure::Refused(format!("{}: {reason}", reason.number()))
+/// The command of this name.
+fn named(name: &OsStr) -> Result<&'static Command, Failure> {
+    COMMANDS.iter().find(|command| name == command.name).ok_or_else(|| {
+        let text = files::shown(name);
+        let hint = near::hint(&text, COMMANDS.iter().map(|command| command.name));
+        Failure::Misused(format!("there is no command {text}{hint}"))
+    })
 }
 
-/// The design of a file, and the file.
+/// The file of a design or a text. What a text leaves out is told.
+fn read(name: &OsStr) -> Result<Input, Failure> {
+    let input = Input::of(name)?;
+    input.warn();
+    Ok(input)
+}
+
+/// The design of a file or a text, and its file.
 fn read_design(name: &OsStr) -> Result<(Vec<u8>, Design), Failure> {
-    let file = read(name)?;
-    match Design::read(&file) {
-        Ok(design) => Ok((file, design)),
-        Err(refusal) => Err(Failure::refused(name, refusal)),
+    let input = read(name)?;
+    let design = input.design(name)?;
+    Ok((input.file, design))
+}
+
+/// Writes the file that a command makes, over none of its inputs; as JSON it answers where, how long, and what else there is to say.
+fn write(arguments: &Arguments, file: &[u8], inputs: &[&OsStr], more: Object) -> Result<u8, Failure> {
+    let output = arguments.due("-o");
+    let json = arguments.has("--json");
+    if json && files::is_standard(output) {
+        return Err(Failure::Misused("--json and '-o -' would both write to standard output".to_owned()));
     }
-}
-
-fn explain(arguments: &Arguments) -> Result<u8, Failure> {
-    let [name] = arguments.exactly(["a design file"])?;
-    let (file, design) = read_design(name)?;
-    files::print(text::explained(&design, &judge::words(&jestrunas::judge(&file))).as_bytes())?;
-    Ok(DONE)
-}
-
-fn assemble(arguments: &Arguments) -> Result<u8, Failure> {
-    let [name] = arguments.exactly(["a text"])?;
-    let output = arguments.due("-o")?;
-    let bytes = files::input(name, files::TEXT + 1).map_err(|error| Failure::unavailable(name, error))?;
-    if bytes.len() as u64 > files::TEXT {
-        return Err(Failure::refused(name, format!("the text is longer than {} bytes", files::TEXT)));
+    files::output(output, file, inputs)?;
+    if json {
+        files::answer_json(&Object::new().with_file(output).with("bytes", file.len()).and(more))?;
     }
-    let design = text::assemble(&bytes).map_err(|fault| Failure::Refused(format!("{}:{fault}", files::shown(name))))?;
-    files::output(output, &design.file(), &[name])?;
-    Ok(DONE)
-}
-
-fn produce(arguments: &Arguments) -> Result<u8, Failure> {
-    let [word] = arguments.exactly(["a table"])?;
-    let m = number("-m", arguments.due("-m")?)?;
-    let s = number("-s", arguments.due("-s")?)?;
-    let output = arguments.due("-o")?;
-    let table = table("a table", word, m)?;
-    let file = match arguments.value("--placement") {
-        Some(word) => jestrunas::produce(m, s, &table, &placement("a placement", word)?),
-        None => jestrunas::produce(m, s, &table, published_placement(s)),
-    };
-    files::output(output, &file.map_err(refused)?, &[])?;
-    Ok(DONE)
-}
-
-fn run_chain(arguments: &Arguments) -> Result<u8, Failure> {
-    let Some((name, words)) = arguments.operands.split_first() else {
-        return Err(Failure::Misused("a design file is due".to_owned()));
-    };
-    let (file, Design { s, s_box, .. }) = read_design(name)?;
-    if words.len() != s {
-        return Err(Failure::Misused(format!("the design has {s} shares, and {} are given", words.len())));
-    }
-    let mut shares = [0; SHARES_MAX];
-    for (share, word) in shares.iter_mut().zip(words) {
-        // a share above 255 is out of range in every design, as 255 is
-        *share = number("a share", word)?.min(255) as u8;
-    }
-    let output = jestrunas::run(&file, shares).map_err(refused)?;
-    let sum = |shares: [u8; SHARES_MAX]| shares.iter().fold(0, |sum, share| sum ^ share);
-    let x = sum(shares);
-    let written: String = output[..s].iter().map(|share| format!(" {share}")).collect();
-    files::print(format!("shares{written}\nsum {}\nS({x}) {}\n", sum(output), s_box[usize::from(x)]).as_bytes())?;
-    Ok(DONE)
-}
-
-fn forecast(arguments: &Arguments) -> Result<u8, Failure> {
-    let [name] = arguments.exactly(["a design file"])?;
-    let forecast =
-        jestrunas::forecast(&read(name)?).map_err(|reason| Failure::refused(name, format!("{}: {reason}", reason.number())))?;
-    files::print(format!("workspace {}\ntrials {}\n", forecast.workspace, forecast.trials).as_bytes())?;
-    Ok(DONE)
-}
-
-fn join(arguments: &Arguments) -> Result<u8, Failure> {
-    let [first, second] = arguments.exactly(["a first design file", "a second design file"])?;
-    files::each_once(&arguments.operands)?;
-    let output = arguments.due("-o")?;
-    let (one, _) = read_design(first)?;
-    let (other, _) = read_design(second)?;
-    files::output(output, &jestrunas::join(&one, &other).map_err(refused)?, &[first, second])?;
-    Ok(DONE)
-}
-
-fn transform(arguments: &Arguments) -> Result<u8, Failure> {
-    let [m, words] = arguments.exactly(["m", "a table or coefficient words"])?;
-    let m = number("m", m)?;
-    let input = table("a table", words, m)?;
-    let mut output = vec![0; input.len()];
-    jestrunas::transform(m, &input, &mut output).map_err(refused)?;
-    let digits = if m > 4 { 2 } else { 1 };
-    let written: String = output.iter().map(|word| format!("{word:0digits$X}")).collect();
-    files::print(format!("{written}\n").as_bytes())?;
     Ok(DONE)
 }

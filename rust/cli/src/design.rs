@@ -1,5 +1,7 @@
 //! A design taken apart, and its file.
 
+use crate::json::{list, Json, Object};
+use crate::text;
 use jestrunas::Refusal;
 
 /// A stage: its table, and the list of terms of each bit of each component. The list of bit b of component j is at (j - 1) * m + b, its
@@ -34,6 +36,14 @@ fn record(file: &mut Vec<u8>, kind: u8, body: &[u8]) {
     file.extend(body);
 }
 
+/// Puts a term into its place in a list, or takes it out where it stands there.
+pub fn flip(list: &mut Vec<u32>, term: u32) {
+    match list.binary_search(&term) {
+        Ok(i) => drop(list.remove(i)),
+        Err(i) => list.insert(i, term),
+    }
+}
+
 impl Stage {
     /// Whether a component depends on a share, both counted from 0. Each function has one list, so it depends on the variables that its
     /// terms name, and on no other.
@@ -42,10 +52,30 @@ impl Stage {
         self.lists[component * m..][..m].iter().flatten().any(|term| term & variables != 0)
     }
 
-    /// What the components sum to at a sharing: share j is the bits from (j - 1) * m on.
-    pub fn sum(&self, m: usize, sharing: u32) -> u8 {
+    /// The output sharing of a sharing.
+    pub fn output(&self, sharing: u32) -> u32 {
         let is_one = |list: &[u32]| list.iter().filter(|&term| term & !sharing == 0).count() % 2 == 1;
-        self.lists.iter().enumerate().filter(|(_, list)| is_one(list)).fold(0, |sum, (i, _)| sum ^ 1 << (i % m))
+        self.lists.iter().enumerate().filter(|(_, list)| is_one(list)).fold(0, |output, (i, _)| output | 1 << i)
+    }
+
+    /// The output sharing of each sharing: bit i of a word is first the coefficient of list i at a term, then, summed over the subsets of
+    /// each sharing, its value there.
+    pub fn outputs(&self, m: usize, s: usize) -> Vec<u32> {
+        let mut words = vec![0; 1 << (m * s)];
+        for (i, list) in self.lists.iter().enumerate() {
+            for &term in list {
+                words[term as usize] |= 1 << i;
+            }
+        }
+        for variable in 0..m * s {
+            for block in words.chunks_mut(2 << variable) {
+                let (lower, upper) = block.split_at_mut(1 << variable);
+                for (upper, lower) in upper.iter_mut().zip(lower) {
+                    *upper ^= *lower;
+                }
+            }
+        }
+        words
     }
 }
 
@@ -81,5 +111,20 @@ impl Design {
         }
         record(&mut file, 4, &[]);
         file
+    }
+
+    /// The design as fields, its formulas as in a text.
+    pub fn json(&self) -> Object {
+        let component = |stage: &Stage, j: usize| {
+            let shares = (0..self.s).filter(|&share| stage.depends(self.m, j, share)).map(|share| (share + 1).into());
+            let formulas = stage.lists[j * self.m..][..self.m].iter().map(|list| text::sum(self.m, list).into());
+            Object::new().with("depends", shares.collect::<Vec<Json>>()).with("formulas", formulas.collect::<Vec<Json>>()).into()
+        };
+        let stage = |stage: &Stage| {
+            let components = (0..self.s).map(|j| component(stage, j)).collect::<Vec<Json>>();
+            Object::new().with("G", list(&stage.table)).with("components", components).into()
+        };
+        let head = Object::new().with("m", self.m).with("s", self.s).with("S", list(&self.s_box));
+        head.with("stages", self.stages.iter().map(stage).collect::<Vec<Json>>())
     }
 }

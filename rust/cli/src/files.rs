@@ -1,6 +1,7 @@
 //! Files that are read and written; `-` is standard input or output.
 
-use crate::failure::Failure;
+use crate::failure::{Failure, Told, DONE};
+use crate::json::Object;
 use std::ffi::{OsStr, OsString};
 use std::fs::{self, File};
 use std::io::{self, ErrorKind, Read, Write};
@@ -26,18 +27,32 @@ pub fn shown(name: &OsStr) -> String {
     shown
 }
 
-fn is_standard(name: &OsStr) -> bool {
+pub fn is_standard(name: &OsStr) -> bool {
     name == "-"
 }
 
-/// The first bytes of a file, as many as the most.
-pub fn input(name: &OsStr, most: u64) -> io::Result<Vec<u8>> {
+/// The bytes by which a text is known, or a design file: those of the head of a record.
+const FIRST: u64 = 4;
+
+/// Whether what begins so is a text. The first record of a design file has the length 3 and the kind 1, control characters both, and a text
+/// has none there but those between words.
+pub fn is_text(bytes: &[u8]) -> bool {
+    let first = &bytes[..bytes.len().min(FIRST as usize)];
+    !first.is_empty() && first.iter().all(|byte| !byte.is_ascii_control() || b"\t\n\r".contains(byte))
+}
+
+/// Whether a file begins as every design file that reads does.
+pub fn is_design(bytes: &[u8]) -> bool {
+    bytes.starts_with(&[3, 0, 1, 0])
+}
+
+/// A text, or of a design file as much as decides every answer. Of one that is too long a byte more than is allowed.
+pub fn input(name: &OsStr) -> io::Result<Vec<u8>> {
+    let mut from: Box<dyn Read> = if is_standard(name) { Box::new(io::stdin().lock()) } else { Box::new(File::open(name)?) };
     let mut bytes = Vec::new();
-    if is_standard(name) {
-        io::stdin().lock().take(most).read_to_end(&mut bytes)?;
-    } else {
-        File::open(name)?.take(most).read_to_end(&mut bytes)?;
-    }
+    from.by_ref().take(FIRST).read_to_end(&mut bytes)?;
+    let most = if is_text(&bytes) { TEXT + 1 } else { DESIGN };
+    from.take(most - bytes.len() as u64).read_to_end(&mut bytes)?;
     Ok(bytes)
 }
 
@@ -95,12 +110,26 @@ pub fn output(name: &OsStr, bytes: &[u8], inputs: &[&OsStr]) -> Result<(), Failu
     written.map_err(|error| Failure::unavailable(name, error))
 }
 
+/// Prints the answer of a command, which is then done.
+pub fn answer(words: &str) -> Result<u8, Failure> {
+    print(words.as_bytes())?;
+    Ok(DONE)
+}
+
+/// The same in a line of JSON.
+pub fn answer_json(object: &Object) -> Result<u8, Failure> {
+    answer(&format!("{object}\n"))
+}
+
 /// Writes to standard output.
-pub fn print(bytes: &[u8]) -> Result<(), Failure> {
+fn print(bytes: &[u8]) -> Result<(), Failure> {
     let mut out = io::stdout().lock();
     match out.write_all(bytes).and_then(|()| out.flush()) {
         Ok(()) => Ok(()),
         Err(error) if error.kind() == ErrorKind::BrokenPipe => Err(Failure::Unread),
-        Err(error) => Err(Failure::Unavailable(format!("standard output: {error}"))),
+        Err(error) => Err(Failure::Unavailable(Told {
+            words: format!("standard output: {error}"),
+            json: Object::new().with("error", error.to_string()),
+        })),
     }
 }

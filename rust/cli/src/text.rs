@@ -1,11 +1,13 @@
 //! The text of a design, as docs/TEXT.md has it.
 
-mod assemble;
+mod formula;
+mod reader;
 mod signs;
+mod stage;
 mod write;
 
-pub use assemble::assemble;
-pub use write::{explained, written};
+pub use reader::{assemble, read, Text};
+pub use write::{explained, polynomial, polynomials, sum, written};
 
 use std::fmt;
 

@@ -66,10 +66,7 @@ impl<'a> Signs<'a> {
 
     /// Takes the sign in front, with its place. Spaces and comments are none.
     pub fn take(&mut self) -> (Place, Sign<'a>) {
-        self.pass_while(|c| c != '\n' && c.is_whitespace());
-        if self.rest.starts_with('#') {
-            self.pass_while(|c| c != '\n');
-        }
+        self.pass_spaces();
         let place = self.place;
         let sign = match self.rest.chars().next() {
             None => Sign::TextEnd,
@@ -86,6 +83,25 @@ impl<'a> Signs<'a> {
             }
         };
         (place, sign)
+    }
+
+    /// The letters and digits in front, in a row.
+    pub fn run(&self) -> &'a str {
+        self.clone().take_run().1
+    }
+
+    /// Takes the letters and digits in front, in a row, with their place.
+    pub fn take_run(&mut self) -> (Place, &'a str) {
+        self.pass_spaces();
+        (self.place, self.pass_while(|c| c.is_ascii_alphanumeric()))
+    }
+
+    /// Passes spaces and a comment.
+    fn pass_spaces(&mut self) {
+        self.pass_while(|c| c != '\n' && c.is_whitespace());
+        if self.rest.starts_with('#') {
+            self.pass_while(|c| c != '\n');
+        }
     }
 
     /// The sign in front, with its place.

@@ -1,6 +1,14 @@
-//! The program as a person meets it: its commands, its pages of help, the examples of docs/TEXT.md.
+//! The program as a person meets it: its commands, its pages, every exit status and message, the examples of docs/TEXT.md.
 
-mod commands;
-mod help;
+mod assemble;
+mod explain;
+mod files;
+mod judge;
+mod operations;
 mod page;
+mod pages;
+mod samples;
 mod shell;
+mod texts;
+mod why;
+mod words;

@@ -47,6 +47,33 @@ pub fn shell_with(line: &str, input: &[u8]) -> Shown {
     }
 }
 
+/// What is to be seen: the exit status, standard output, standard error.
+pub fn shown(status: i32, out: &str, err: &str) -> Shown {
+    Shown { status, out: out.to_owned(), err: err.to_owned() }
+}
+
+/// Prints this and nothing else.
+pub fn prints(line: &str, out: &str) {
+    assert_eq!(shell(line), shown(0, out, ""), "{line}");
+}
+
+/// Prints nothing, tells this, and ends with this status.
+pub fn tells(line: &str, status: i32, err: &str) {
+    assert_eq!(shell(line), shown(status, "", &format!("{err}\n")), "{line}");
+}
+
+/// Refuses an input, and tells this.
+pub fn refuses(line: &str, err: &str) {
+    tells(line, 1, err);
+}
+
+/// Tells that a command was misused, and where help is.
+pub fn misuses(command: &str, line: &str, words: &str) {
+    tells(&format!("jestrunas {command} {line}"), 2, &format!("jestrunas {command}: {words}; see 'jestrunas {command} --help'"));
+}
+
+pub const NO_FILE: &str = "No such file or directory (os error 2)";
+
 /// An empty folder, for files of one test.
 pub struct Folder(PathBuf);
 

@@ -19,12 +19,14 @@ fn help() {
     let all = shell("jestrunas --help");
     assert_eq!((all.status, all.err.as_str(), examples_work(&all.out)), (0, "", 1));
     let commands: Vec<&str> = all.out.lines().filter_map(|line| line.strip_prefix("  jestrunas ")).collect();
-    assert_eq!(commands.len(), 8);
+    assert_eq!(commands.len(), 11);
     for command in commands {
         let name = command.split(' ').next().unwrap();
         let page = shell(&format!("jestrunas {name} --help"));
-        assert_eq!((page.status, page.err.as_str(), examples_work(&page.out)), (0, "", 1), "{name}");
-        assert!(page.out.starts_with(&format!("jestrunas {name} ")), "{}", page.out);
+        assert_eq!((page.status, page.err.as_str()), (0, ""), "{name}");
+        assert!(examples_work(&page.out) > 0, "{name}");
+        let used: Vec<&str> = page.out.lines().next().unwrap().split(' ').take(2).collect();
+        assert_eq!(used, ["jestrunas", name]);
         assert!(page.out.lines().all(|line| line.len() <= 100));
         // beside all else
         assert_eq!(shell(&format!("jestrunas {name} one two three --help")), page);

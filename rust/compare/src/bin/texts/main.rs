@@ -3,102 +3,16 @@
 //!     texts [DESIGNS [SEED]]
 //!
 //! Each design's text, assembled, must be its file again, and so must a text that is written here, as a person may: lines and terms in any
-//! order, any signs, spaces and comments, and left out what need not be said. A damaged text must be refused at a place in it, or be the text
+//! order, any signs, spaces and comments, tables in both notations, brackets, cyclic stages, and left out what need not be said. A damaged text must be refused at a place in it, or be the text
 //! of a file that reads. The last line counts; the exit status is 1 at a difference.
 
+mod by_hand;
+
+use by_hand::by_hand;
 use cli::{text, Design};
 use compare::{make, random::Random};
-use reference::{encode, Stage};
+use reference::encode;
 use std::collections::BTreeMap;
-
-/// What may stand between two signs.
-fn space(random: &mut Random) -> &'static str {
-    random.pick(&["", "", "", " ", "  ", "\t"])
-}
-
-/// What may stand at the end of a line.
-fn end(random: &mut Random) -> &'static str {
-    random.pick(&["\n", "\n", "\r\n", " \n\n", " # a comment, ü\n", "\n# y1[0] = 1\n"])
-}
-
-fn numbers(random: &mut Random, name: &str, table: &[u8]) -> String {
-    let mut text = name.to_owned();
-    for entry in table {
-        text += random.pick(&[" ", " ", " ", "  ", " # goes on\n "]);
-        text += &entry.to_string();
-    }
-    text + end(random)
-}
-
-fn bit(random: &mut Random, letter: &str, m: usize, bit: usize) -> String {
-    let mut text = letter.to_owned();
-    for sign in [&(bit / m + 1).to_string(), "[", &(bit % m).to_string(), "]"] {
-        text += space(random);
-        text += sign;
-    }
-    text
-}
-
-fn term(random: &mut Random, m: usize, number: u32) -> String {
-    let mut variables: Vec<usize> = (0..32).filter(|variable| number >> variable & 1 == 1).collect();
-    random.shuffle(&mut variables);
-    if variables.is_empty() {
-        return "1".to_owned();
-    }
-    let mut text = String::new();
-    for (i, &variable) in variables.iter().enumerate() {
-        if i > 0 {
-            text += random.pick(&["·", "*", "", " ", " · ", "\n·", "* # product\n"]);
-        }
-        text += &bit(random, "x", m, variable);
-    }
-    text
-}
-
-/// What the components sum to when share 1 is x and the others are 0.
-fn of_share_1(stage: &Stage, m: usize) -> Vec<u8> {
-    (0..1 << m).map(|x| stage.output(&[x, 0, 0, 0, 0]).iter().fold(0, |sum, share| sum ^ share)).collect()
-}
-
-fn stage(random: &mut Random, stage: &Stage, m: usize) -> String {
-    let mut lines = Vec::new();
-    if of_share_1(stage, m) != stage.table || random.once_in(2) {
-        lines.push(numbers(random, "G", &stage.table));
-    }
-    for (i, products) in stage.components.iter().flatten().enumerate() {
-        let mut terms: Vec<u32> = products.iter().map(|product| product.number(m)).collect();
-        random.shuffle(&mut terms);
-        if terms.is_empty() && random.once_in(2) {
-            continue;
-        }
-        let mut line = bit(random, "y", m, i) + space(random) + "=" + random.pick(&["", " ", "\n  "]);
-        if terms.is_empty() {
-            line += "0";
-        }
-        for (j, &number) in terms.iter().enumerate() {
-            if j > 0 {
-                line += random.pick(&["+", "^", " + ", " +\n", "\n\n  ^ "]);
-            }
-            line += &term(random, m, number);
-        }
-        lines.push(line + end(random));
-    }
-    random.shuffle(&mut lines);
-    "stage".to_owned() + end(random) + &lines.concat()
-}
-
-/// A text of a design, as a person may write it.
-fn by_hand(random: &mut Random, design: &reference::Design) -> String {
-    let mut text = random.pick(&["", "", "\n", "# a design\n", "\u{feff}"]).to_owned();
-    for (name, number) in [("m", design.m), ("s", design.s)] {
-        text += &format!("{name} {number}{}", end(random));
-    }
-    text += &numbers(random, "S", &design.table);
-    for one in &design.stages {
-        text += &stage(random, one, design.m);
-    }
-    text
-}
 
 /// A text with some damage.
 fn damaged(random: &mut Random, text: &str) -> Vec<u8> {
@@ -115,7 +29,7 @@ fn damaged(random: &mut Random, text: &str) -> Vec<u8> {
             }
             3 => bytes.insert(at, random.byte()),
             4 if at < bytes.len() => bytes[at] = random.byte(),
-            5 if at < bytes.len() => bytes[at] = random.pick(b"0123456789xyGSms[]=+^*# \n"),
+            5 if at < bytes.len() => bytes[at] = random.pick(b"0123456789xyGSms[]=+^*&~()# \n"),
             6 => {
                 let sign = random.pick(&[
                     "x1[0]",
@@ -129,6 +43,12 @@ fn damaged(random: &mut Random, text: &str) -> Vec<u8> {
                     "\n",
                     "#",
                     "⊕",
+                    "~",
+                    "(x1[0] + ",
+                    ")",
+                    "cyclic\n",
+                    "G[0] = x[0]\n",
+                    "0123",
                     "\0",
                 ]);
                 drop(bytes.splice(at..at, sign.bytes()));
@@ -179,7 +99,7 @@ fn main() {
         let k = 1 + random.below(4);
         let design = make::design(&mut random, m, s, k);
         let file = encode(&design);
-        let explained = text::explained(&Design::read(&file).expect("it reads"), "none is asked for");
+        let explained = text::explained(&Design::read(&file).expect("it reads"), "none is asked for", &[]);
         let hand = by_hand(&mut random, &design);
         for text in [&explained, &hand] {
             match text::assemble(text.as_bytes()) {
