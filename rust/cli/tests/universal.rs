@@ -1,4 +1,4 @@
-//! The universal construction on the printed tables of rust/data/rows.txt: every box of four bits in five shares, every quadratic one in four,
+//! The universal construction on the printed tables of crates/bench_designs/stdin: every box of four bits in five shares, every quadratic one in four,
 //! and the classes of three bits in four.
 
 use cli::universal::{designed, Unmade};
@@ -6,9 +6,9 @@ use std::collections::BTreeSet;
 use std::sync::atomic::{AtomicUsize, Ordering};
 use std::thread;
 
-/// The tables of m bits that rows.txt has, each once, without those that are damaged in print and so no permutations.
+/// The tables of m bits that this file has, each once, without those that are damaged in print and so no permutations.
 fn tables(m: usize) -> Vec<Vec<u8>> {
-    let rows = include_str!("../../data/rows.txt").lines().map(|line| line.split(' ').collect::<Vec<&str>>());
+    let rows = include_str!("../../../crates/bench_designs/stdin").lines().map(|line| line.split(' ').collect::<Vec<&str>>());
     let printed = rows
         .filter(|row| row[0] == m.to_string())
         .map(|row| row[2].chars().map(|digit| digit.to_digit(16).expect("a hexadecimal digit") as u8).collect::<Vec<u8>>());
