@@ -129,7 +129,7 @@ struct Together {
 }
 
 impl Together {
-    const REFUSALS: [&str; 5] = ["the first", "the second", "19", "20", "17"];
+    const REFUSALS: [&'static str; 5] = ["the first", "the second", "19", "20", "17"];
 
     /// A call with these files, whose refusals of reading are known. Sizes and stages are those of the heads, where both read. An output
     /// shorter than each of the files is too short for what is joined of them, which is longer than each.
