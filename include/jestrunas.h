@@ -13,7 +13,7 @@
  *
  * The library keeps nothing from one call to the next, allocates nothing and may be called from several threads.
  * Every struct is passed and answered by value.
- * Link with target/staticlib/libjestrunas.a (x86-64, System V calling convention).
+ * Link with libjestrunas.a or libjestrunas.so (x86-64, System V calling convention); docs/INSTALL.md says where they are.
  */
 #ifndef JESTRUNAS_H
 #define JESTRUNAS_H
@@ -24,6 +24,10 @@
 #ifdef __cplusplus
 extern "C" {
 #endif
+
+/* The version: of the library, of the program and of the packages for Rust and Python. Before 1.0, functions may change
+ * where the second number does. */
+#define JESTRUNAS_VERSION "0.1.0"
 
 /* The limits of a design (RULES 3). */
 #define JESTRUNAS_WIDTH_MAX 6       /* m is 1 to 6 */

@@ -9,8 +9,14 @@ fn main() {
     };
     let archive = folder.join("libjestrunas.a");
     println!("cargo::rerun-if-changed={}", archive.display());
+    // an error, since cargo shows no warning of a package that comes from elsewhere
     if !archive.exists() {
-        println!("cargo::warning={} is not there: run `tools/build library` first", archive.display());
+        eprintln!(
+            "{} is not there: set JESTRUNAS_LIB_DIR to the folder of libjestrunas.a, as an absolute path (after `tools/install PREFIX` of \
+             Jestrunas it is PREFIX/lib), or run `tools/build library` where the repository is at hand",
+            archive.display()
+        );
+        std::process::exit(1);
     }
     println!("cargo::rustc-link-search=native={}", folder.display());
     println!("cargo::rustc-link-lib=static=jestrunas");

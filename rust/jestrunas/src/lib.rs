@@ -416,6 +416,13 @@ mod tests {
     }
 
     #[test]
+    fn the_header_has_the_same_version() {
+        let header = include_str!("../../../include/jestrunas.h");
+        let define = format!("#define JESTRUNAS_VERSION \"{}\"", env!("CARGO_PKG_VERSION"));
+        assert!(header.lines().any(|line| line == define), "{define}");
+    }
+
+    #[test]
     fn the_header_has_the_same_placements() {
         let header = include_str!("../../../include/jestrunas.h");
         for s in SHARES_MIN..=SHARES_MAX {

@@ -126,7 +126,7 @@ impl<'a> Reader<'a> {
         let place = self.at;
         let refuse = |reason| Err(Fault { reason, place });
         let rest = &self.file[place..];
-        let Some((head, rest)) = rest.split_at_checked(4) else { return refuse(1) };
+        let Some((head, rest)) = rest.split_first_chunk::<4>() else { return refuse(1) };
         if u16::from_le_bytes([head[2], head[3]]) != kind {
             return refuse(2);
         }
