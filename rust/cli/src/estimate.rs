@@ -35,19 +35,28 @@ fn for_a_trial(design: &Design, stage: &Stage) -> f64 {
     }
     // correct, so that no pass ends before its time
     if let Some(difference) = Difference::of(&alone, 0, false) {
-        difference.products.iter().for_each(|product| flip(&mut alone.stages[0].lists[product.bit], product.term));
+        difference.products.iter().for_each(|product| turn(&mut alone.stages[0], m, Some(product.bit), product.term));
     }
     let mut trials = BLOCK.min(sharings);
     loop {
         // a product that is 1 at this sharing, and at none before it, ends the pass there
         let mut wrong = alone.clone();
-        flip(&mut wrong.stages[0].lists[0], (trials - 1) as u32);
+        turn(&mut wrong.stages[0], m, None, (trials - 1) as u32);
         let file = wrong.file();
         let elapsed = time(|| judge(&file)).saturating_sub(time(|| read(&file)));
         if elapsed >= ENOUGH || trials == sharings {
-            return elapsed.as_secs_f64() / trials as f64;
+            let taken = judge(&file).map_or_else(|refusal| refusal.trials, |accepted| accepted.trials);
+            return elapsed.as_secs_f64() / taken.max(1) as f64;
         }
         trials = (4 * trials).min(sharings);
+    }
+}
+
+/// Turns what the components sum to by a product, in one bit or in any: takes it out of a list that has it, or puts it into the shortest.
+fn turn(stage: &mut Stage, m: usize, bit: Option<usize>, term: u32) {
+    let lists = stage.lists.iter_mut().enumerate().filter(|(i, _)| bit.is_none_or(|bit| i % m == bit)).map(|(_, list)| list);
+    if let Some(list) = lists.min_by_key(|list| (list.binary_search(&term).is_err(), list.len())) {
+        flip(list, term);
     }
 }
 

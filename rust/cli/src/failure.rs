@@ -77,10 +77,11 @@ impl Failure {
 
     /// Tells an input that is refused or a file that cannot be had: on standard error, or as a line of JSON.
     pub fn tell(&self, json: bool) -> Result<(), Failure> {
-        match self {
-            Failure::Refused(told) | Failure::Unavailable(told) if json => drop(answer_json(&told.json)?),
-            Failure::Refused(told) | Failure::Unavailable(told) => tell(&format!("jestrunas: {}\n", told.words)),
-            Failure::Misused(_) | Failure::Unread => {}
+        let (Failure::Refused(told) | Failure::Unavailable(told)) = self else { return Ok(()) };
+        if json {
+            answer_json(&told.json)?;
+        } else {
+            tell(&format!("jestrunas: {}\n", told.words));
         }
         Ok(())
     }

@@ -43,6 +43,7 @@ fn a_long_file_is_refused_as_the_whole_of_it() {
     let longest = longest();
     let file = folder.write("longest", &longest);
     assert_eq!(shell(&format!("jestrunas forecast {file} | head -n 3")).out, "workspace 131072\ntrials 8388608\nterms 327680\n");
+    prints(&format!("jestrunas forecast {file} | tail -n 1 | grep -c '^seconds [0-9.]*[1-9]'"), "1\n");
     // it reads: its chain is S, and its first stage is not correct
     assert_eq!(shell(&format!("jestrunas judge {file}")).out, format!("{file}: 12 1 0, 2 trials: stage 1 is not correct\n"));
     for more in [1, 2, 1_000_000] {

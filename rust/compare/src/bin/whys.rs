@@ -46,7 +46,7 @@ fn run(design: &Design, stage: &Stage, sharing: u32) -> Vec<u8> {
 
 /// The trials of a verdict before a stage.
 fn before(design: &Design, stage: usize) -> usize {
-    2 * stage << (design.m * design.s)
+    (2 * stage) << (design.m * design.s)
 }
 
 fn repeats(design: &Design, why: &Repeats) -> Held {
