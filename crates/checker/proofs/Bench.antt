@@ -9,7 +9,7 @@ use Rattle.finite.specs.Maps.{repeats, met_before}
 use Rattle.finite.specs.Faults.{first_fault}
 use Rattle.anf.specs.Terms.{value_at}
 use Rattle.records.specs.Records.{a_record}
-use Rattle.records.specs.Encode.{stage_bytes, encode}
+use Rattle.records.specs.Encode.{lists_bytes, stage_bytes, encode}
 use Rattle.records.specs.Bytes.{term_bytes}
 use Rattle.design.proofs.Bench.{computing}
 use Rattle.sharing.specs.Sharing.{share, sum, setting, put_share, packed}
@@ -22,7 +22,7 @@ use Rattle.checker.specs.Bench.{rows, forecasts, meeting_rows, runs}
 
 -- the definitions that computing opens: of a file that is written,
 unfoldable writing : ℕ
-unfolding a_record stage_bytes encode term_bytes
+unfolding a_record lists_bytes stage_bytes encode term_bytes
 writing = 0
 
 -- of a sharing and a stage,

@@ -8,7 +8,7 @@ use Rattle.anf.specs.Terms.{before}
 use Rattle.design.specs.Limits.{broken, checked, head_answer}
 use Rattle.records.specs.Bytes.{u16_at, u32_at, term_bytes}
 use Rattle.records.specs.Records.{a_record}
-use Rattle.records.specs.Encode.{stage_bytes, encode}
+use Rattle.records.specs.Encode.{lists_bytes, stage_bytes, encode}
 use Rattle.design.specs.Reading.{last_of, number_of, kind_due, size_due, length_due, entry_fits, previous, term_fits, fault_at, place, table_at, list_at, stage_at, meaning, walk, reading}
 use Rattle.design.specs.Bench.{file_d, design_d, head_rows, rows}
 
@@ -31,5 +31,5 @@ unfolding computing
 bench_heads = refl
 
 pub D-encoded : encode design_d ≡ file_d
-unfolding term_bytes a_record stage_bytes encode
+unfolding term_bytes a_record lists_bytes stage_bytes encode
 D-encoded = refl

@@ -12,11 +12,11 @@ use Rattle.records.proofs.TermBytes.{length_term_bytes}
 use Rattle.records.proofs.ListRecords.{record_length}
 use Rattle.records.proofs.Concat.{concat_length}
 use Rattle.records.specs.Design.{Stage, Design, no_stage, stage_of}
-use Rattle.records.specs.Encode.{head_body, stage_bytes, encode}
+use Rattle.records.specs.Encode.{head_body, lists_bytes, stage_bytes, encode}
 
 -- a stage: its table, and four bytes a list and a term
 pub stage_length : (g : Stage) → length (stage_bytes g) ≡ 4 + length g.table + total (length g.lists) (λ l. 4 + 4 * length (get_or g.lists l []))
-unfolding stage_bytes
+unfolding stage_bytes lists_bytes
 stage_length g =
     let a = length-append (a_record 2 g.table) (concat (map list_record g.lists)) in
     let b = record_length 2 g.table in

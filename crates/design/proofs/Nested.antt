@@ -8,12 +8,12 @@ use native.Mathlib.Numerals.{add-one}
 use borrow.Author.Tests.{ne_eqb}
 use Rattle.finite.specs.Tests.{tabulate}
 use Rattle.finite.proofs.Testing.{tabulate_congr, map_is}
+use Rattle.std.specs.List.{concat}
 use Rattle.records.specs.Bytes.{term_bytes}
 use Rattle.records.specs.Design.{Design, no_stage, stage_of, list_of}
 use Rattle.design.specs.WellFormed.{WellFormed}
-use Rattle.std.specs.List.{concat}
 use Rattle.records.specs.Records.{a_record}
-use Rattle.records.specs.Encode.{stage_bytes, encode}
+use Rattle.records.specs.Encode.{lists_bytes, stage_bytes, encode}
 use Rattle.design.specs.Reading.{last_of, number_of, kind_due}
 use Rattle.design.proofs.Flat.{head_for, stage_body, body_of, record_of, flat}
 use Rattle.design.proofs.Found.{staged}
@@ -44,7 +44,7 @@ module _ (d : Design) (w : WellFormed d) where
   record_list t l a b = rw (staged (head_for d) t (suc l) a b, body_stage d t (suc l) a b, ne_eqb (suc l) 0 (λ z. omega arith)) refl
 
   stage_encode : (t : ℕ) → t < d.k → concat (tabulate (1 + d.m * d.s) (λ l. record_of d (number_of (head_for d) t l))) ≡ stage_bytes (stage_of d t)
-  unfolding stage_bytes
+  unfolding stage_bytes lists_bytes
   stage_encode t a =
       let e : 1 + d.m * d.s ≡ suc (d.m * d.s) = omega arith in
       rw e (concat_first (d.m * d.s) _ ∙ rw (record_table t a, map_is (λ ts. a_record 3 (term_bytes ts)) (stage_of d t).lists (d.m * d.s) [] (w.stage t a).count)

@@ -114,7 +114,6 @@ fn walk(file: &[u8], head: Head) -> Result<DesignFile<'_>, ReadError>
     requires { (numbers head ≡ head_of file.now) × (fault_at file.now (numbers head) 0 0 ≡ 0) }
     ensures reading { reading_of result ≡ reading file.now }
     ensures layout { layout_read result ≡ layout_of file.now }
-    ensures file { IfOk result (λ d. d.file.now ≡ file.now) }
 {
     let mut starts = [0usize; GREATEST_RECORDS];
     starts[0] = 4;
@@ -153,7 +152,6 @@ pub fn read_head(file: &[u8]) -> Result<Head, Fault>
 pub fn read(file: &[u8]) -> Result<DesignFile<'_>, ReadError>
     ensures reading { reading_of result ≡ reading file.now }
     ensures layout { layout_read result ≡ layout_of file.now }
-    ensures file { IfOk result (λ d. d.file.now ≡ file.now) }
 {
     // A match, as `map_err` would need a contract at its closure, which is no plainer.
     match read_head(file) {

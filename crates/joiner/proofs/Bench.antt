@@ -6,14 +6,14 @@ use lib.ListN.{length}
 use Rattle.records.specs.Bytes.{term_bytes}
 use Rattle.records.specs.Records.{a_record}
 use Rattle.records.specs.Writing.{writing_answer, writing_after}
-use Rattle.records.specs.Encode.{stage_bytes, encode}
+use Rattle.records.specs.Encode.{lists_bytes, stage_bytes, encode}
 use Rattle.design.proofs.Bench as reading
 use Rattle.joiner.specs.Joining.{joined, designs_reason, joined_reason, joining, joined_after}
 use Rattle.joiner.specs.Bench.{rows}
 
 -- the definitions that computing opens: of a file that is read and written, and of joining
 unfoldable computing : ℕ
-unfolding reading.computing term_bytes a_record stage_bytes encode writing_answer writing_after joined designs_reason joined_reason
+unfolding reading.computing term_bytes a_record lists_bytes stage_bytes encode writing_answer writing_after joined designs_reason joined_reason
 computing = 0
 
 pub bench_answers : map (λ r. joining r.first r.second (length r.output)) rows ≡ map (λ r. r.answer) rows

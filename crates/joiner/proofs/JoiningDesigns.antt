@@ -1,35 +1,31 @@
--- The ways out of joining over plain values, each premise as the code has it: of the files f and g, and of the designs d and e. The file that is written part
--- by part is that of the joined design, as the stages of a file stand in one piece.
+-- The ways out of joining over plain values, each premise as the code has it: of the files f and g, and of the designs d and e.
 -- Assumes nothing.
-use mathlib.Core.Path.{◌≡◌, sym, ap, ap₂, ◌∙◌}
-use mathlib.Core.Bool.{false}
-use mathlib.Core.List.{List, [], ◌∷◌, ◌++◌, map, append_assoc}
+use mathlib.Core.Path.{◌≡◌, sym, ap₂, ◌∙◌}
+use mathlib.Core.List.{List}
 use Prim.Native.Nat.{ℕ, ◌+◌, ◌≤◌, ◌<◌}
-use native.Mathlib.Omega.{arith}
 use lib.ListN.{length}
-use Rattle.finite.specs.Faults.{first_fault}
-use Rattle.anf.specs.Tables.{entry, TableFits}
-use Rattle.std.specs.List.{concat}
-use Rattle.records.specs.Records.{a_record, end_record}
-use Rattle.std.specs.Prelude.{Err}
+use Rattle.std.specs.Prelude.{Ok, Err}
+use Rattle.std.specs.Borrow.{MutBor}
 use Rattle.reasons.specs.declared.Reason.{Reason}
-use Rattle.reasons.specs.declared.Reason.TheVariants.{SharesDiffer, TooManyStages}
+use Rattle.reasons.specs.declared.Reason.TheVariants.{SharesDiffer, TooManyStages, OutputTooShort}
 use Rattle.reasons.specs.Numbers.{number}
-use Rattle.records.specs.Writing.{Produced, writing_answer, writing_after, produced_of}
-use Rattle.records.proofs.Concat.{concat_map_append}
-use Rattle.records.proofs.Producing.{Answered, refused as refused_for}
-use Rattle.design.specs.Limits.{greatest_stages, broken}
+use Rattle.records.specs.Bytes.{Bytes}
 use Rattle.records.specs.Design.{Design}
-use Rattle.records.specs.Encode.{stage_bytes, encode}
+use Rattle.records.specs.Encode.{stages_bytes, encode}
+use Rattle.records.specs.Writing.{Produced, writing_answer, writing_after, produced_of}
+use Rattle.records.specs.Inside.Writes.{Starts, Room, Writes}
+use Rattle.records.specs.declared.writer.Writer.{Writer}
+use Rattle.records.proofs.Output.{Answered, refused as refused_for}
+use Rattle.records.proofs.Output as output
+use Rattle.design.specs.Limits.{greatest_stages}
 use Rattle.design.specs.Reading.{refused, means, reading}
-use Rattle.design.proofs.Limits.{bounds, unbroken}
 use Rattle.joiner.specs.Joining.{joined_design, joined, designs_reason, joined_reason, joining, joined_after}
 use Rattle.joiner.specs.Inside.Designs.{designs_joining, designs_joined_after}
-use Rattle.joiner.specs.Inside.Parts.{front_of, file_of, room_reason, file_answer, file_after}
 use Rattle.joiner.proofs.JoinedDesign.{joined_is}
+use Rattle.joiner.proofs.JoinedFile.{joined_length}
 use Rattle.joiner.proofs.Reasons.{differ_answered, exceed_answered, room_answered, first_answered, second_answered, both_answered}
 
--- ---- `concat`: one of the files does not read, with reason r, or they read as d and e
+-- ---- `join`: one of the files does not read, with reason r, or they read as d and e
 
 module _ (f g : List ℕ) where
   module _ (r : Reason) (p : ℕ) (out : List ℕ) where
@@ -69,41 +65,16 @@ module _ (d e : Design) where
     pub too_many : greatest_stages < d.k + e.k → (out : List ℕ) → Leaves out TooManyStages
     too_many h out = refused_for _ _ out TooManyStages (exceed_answered d e (length out) em es h)
 
-    module _ (few : d.k + e.k ≤ greatest_stages) where
-      -- the parts that are written are those of the joined file
-      parts_joined : file_of d.m d.s (d.k + e.k) d.box e.box (concat (map stage_bytes d.stages)) (concat (map stage_bytes e.stages)) ≡ encode (joined_design d e)
-      unfolding file_of front_of encode
-      parts_joined =
-          let numbers = a_record 1 (d.m ∷ d.s ∷ (d.k + e.k) ∷ []) in
-          let box = a_record 2 (map (entry e.box) d.box) in
-          let stages = concat (map stage_bytes d.stages) ++ concat (map stage_bytes e.stages) in
-          append_assoc numbers box (stages ++ end_record)
-          ∙ ap (λ (x : List ℕ). numbers ++ (box ++ (x ++ end_record))) (sym (concat_map_append stage_bytes d.stages e.stages))
+  -- what is written is as long as the file f of the first with the stages of the second
+  module _ (f : List ℕ) (b : Bytes f) (r : reading f ≡ means d) (stages : List ℕ) (y : stages ≡ stages_bytes e.stages) (out : List ℕ) where
+    pub too_short : d.m ≡ e.m → d.s ≡ e.s → d.k + e.k ≤ greatest_stages → length out < length f + length stages → Leaves out OutputTooShort
+    too_short em es few = output.too_short _ out _ (joined_length d e f b r stages y) _ (room_answered d e (length out) em es few)
 
-      module _ (t u first second : List ℕ) (et : t ≡ d.box) (eu : u ≡ e.box) (ex : first ≡ concat (map stage_bytes d.stages))
-          (ey : second ≡ concat (map stage_bytes e.stages)) where
-        made_is : file_of d.m d.s (d.k + e.k) t u first second ≡ encode (joined_design d e)
-        made_is = rw (et, eu, ex, ey) parts_joined
+    module _ (h : length f + length stages ≤ length out) (m : MutBor (List ℕ)) (q : m.now ≡ out) (w : Writer) (s : Starts m w) where
+      pub file_room : Room w (encode (joined_design d e))
+      file_room = output.file_room _ out _ (joined_length d e f b r stages y) h m q w s
 
-        -- only the room is left to be tested
-        only_room : (room : ℕ) → room_reason room (file_of d.m d.s (d.k + e.k) t u first second) ≡ designs_reason d e room
-        unfolding first_fault
-        only_room room = ap (room_reason room) made_is ∙ sym (room_answered d e room em es few)
-
-        pub joins_answer : (room : ℕ) (r : Produced) → r ≡ file_answer room (file_of d.m d.s (d.k + e.k) t u first second) → r ≡ designs_joining d e room
-        unfolding file_answer
-        joins_answer room r er = er ∙ ap₂ writing_answer (only_room room) made_is
-
-        pub joins_output : (out after : List ℕ) → after ≡ file_after out (file_of d.m d.s (d.k + e.k) t u first second) → after ≡ designs_joined_after d e out
-        unfolding file_after
-        joins_output out after ew = ew ∙ ap₂ (λ (i : ℕ) (x : List ℕ). writing_after i x out) (only_room (length out)) made_is
-
--- the head and the boxes of what is written
-pub head_within : (m s k n : ℕ) → broken m s k ≡ false → k + n ≤ greatest_stages → broken m s (k + n) ≡ false
-head_within m s k n limits few = let b = bounds m s k limits in unbroken _ _ _ b.m_low b.m_high b.s_low b.s_high b.bits (omega (arith, b.k_low)) few
-
-pub first_box : (m : ℕ) (t b : List ℕ) → t ≡ b → TableFits m b → TableFits m t
-first_box m t b e h = rw e h
-
-pub second_box : (m w : ℕ) (t b : List ℕ) → m ≡ w → t ≡ b → TableFits w b → TableFits m t
-second_box m w t b em e h = rw (e, em) h
+      pub file_written : d.m ≡ e.m → d.s ≡ e.s → d.k + e.k ≤ greatest_stages → (w₁ : Writer) → Writes w w₁ (encode (joined_design d e))
+          → (after : List ℕ) → (m.ghost_name ≡ w₁.out.ghost_name → after ≡ w₁.out.now)
+          → Answered (designs_reason d e (length out)) (encode (joined_design d e)) out (produced_of (Ok (length f + length stages))) after
+      file_written em es few = output.file_written _ out _ (joined_length d e f b r stages y) h m q w s _ (room_answered d e (length out) em es few)

@@ -1,7 +1,7 @@
 -- Laws of joining.
 pub mod JoinedDesign
+pub mod JoinedFile
 pub mod Reasons
 pub mod Room
-pub mod Writing
 pub mod JoiningDesigns
 pub mod Bench

@@ -13,7 +13,7 @@ use Rattle.finite.specs.Faults.{first_fault}
 use Rattle.finite.proofs.Testing.{clash}
 use Rattle.std.proofs.lemmas.Bool.{false_from_ne_true, and_from, and_parts}
 use Rattle.finite.proofs.Faults.{fault_here, fault_past, fault_either, fault_none}
-use Rattle.records.proofs.Producing.{success_file, success_rest, refusal_after}
+use Rattle.records.proofs.Output.{success_file, success_rest, refusal_after}
 use Rattle.design.specs.Limits.{greatest_stages}
 use Rattle.records.specs.Design.{Design}
 use Rattle.records.specs.Encode.{encode}
@@ -146,15 +146,12 @@ module _ (f g : List ℕ) (room : ℕ) where
 module _ (f g out : List ℕ) where
   -- on success the file stands at its start, whatever stood there
   pub joined_file : joined_reason f g (length out) ≡ 0 → take (length (joined f g)) (joined_after f g out) ≡ joined f g
-  unfolding joined_after
   joined_file e = success_file _ (joined f g) e out
 
   -- and past the file nothing has changed
   pub joined_rest : joined_reason f g (length out) ≡ 0 → drop (length (joined f g)) (joined_after f g out) ≡ drop (length (joined f g)) out
-  unfolding joined_after
   joined_rest e = success_rest _ (joined f g) e out
 
   -- a refusal leaves the output untouched
   pub joined_refused : joined_reason f g (length out) ≢ 0 → joined_after f g out ≡ out
-  unfolding joined_after
   joined_refused n = refusal_after _ (joined f g) n out

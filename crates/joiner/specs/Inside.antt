@@ -1,4 +1,3 @@
 -- What contracts inside the library need: no published contract and no promise speaks of it.
-pub mod Parts
-pub mod Made
+pub mod Through
 pub mod Designs

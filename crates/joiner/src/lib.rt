@@ -1,7 +1,7 @@
 // Designs made of designs: two joined into one.
 #![tactic(auto)]
 
-mod file; // file.rt: a joined file, written if it fits
+mod file; // file.rt: the file, written
 
 ghost use Rattle.std.specs.Prelude.{◌≡◌, length};
 ghost use Rattle.records.specs.Writing.{produced_of};
@@ -10,10 +10,11 @@ ghost use Rattle.joiner.specs.Joining.{joining, joined_after};
 ghost use Rattle.joiner.specs.Inside.Designs.{designs_joining, designs_joined_after};
 
 use design::{DesignFile, Head};
-use file::Parts;
+use file::put;
 use reasons::Reason;
+use records::Writer;
 
-// Joins two designs.
+// Joins two designs. The file is as long as the first with the stages of the second, and known to fit before a byte is written.
 fn join_designs(a: &DesignFile<'_>, b: &DesignFile<'_>, output: &mut [u8]) -> Result<usize, Reason>
     ensures value { produced_of result ≡ designs_joining (design_of a.now) (design_of b.now) (length output.old) }
     ensures output_after { output.new ≡ designs_joined_after (design_of a.now) (design_of b.now) output.old }
@@ -24,18 +25,12 @@ fn join_designs(a: &DesignFile<'_>, b: &DesignFile<'_>, output: &mut [u8]) -> Re
     if Head::GREATEST_STAGES < a.head.k + b.head.k {
         return Err(Reason::TooManyStages);
     }
-    let parts = Parts {
-        head: Head {
-            m: a.head.m,
-            s: a.head.s,
-            k: a.head.k + b.head.k,
-        },
-        first_box: a.box_table(),
-        second_box: b.box_table(),
-        first_stages: a.stages(),
-        second_stages: b.stages(),
-    };
-    parts.write(output)
+    let length = a.file.len() + b.stages().len();
+    if output.len() < length {
+        return Err(Reason::OutputTooShort);
+    }
+    put(a, b, &mut Writer::new(output));
+    Ok(length)
 }
 
 /// Joins two design files into one: S of the second after S of the first, the stages in that order.

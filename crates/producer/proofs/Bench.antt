@@ -15,7 +15,7 @@ use Rattle.anf.specs.Tables.{entries_below}
 use Rattle.design.specs.Limits.{broken}
 use Rattle.records.specs.Bytes.{term_bytes}
 use Rattle.records.specs.Records.{a_record}
-use Rattle.records.specs.Encode.{stage_bytes, encode}
+use Rattle.records.specs.Encode.{lists_bytes, stage_bytes, encode}
 use Rattle.records.specs.Writing.{writing_answer, writing_after}
 use Rattle.sharing.specs.Sharing.{share}
 use Rattle.direct.specs.Direct.{is_product, chosen, is_outside, loads, placed, component_for, published, stands, direct_list, direct_lists, direct_stage, direct_sharing}
@@ -24,7 +24,7 @@ use Rattle.producer.specs.Bench.{rows}
 
 -- the definitions of the crates below that computing opens
 unfoldable below : ℕ
-unfolding all any first total tabulate xor_below subset subset_sum largest degree passing entries_below repeats met_before first_fault broken term_bytes a_record stage_bytes encode share
+unfolding all any first total tabulate xor_below subset subset_sum largest degree passing entries_below repeats met_before first_fault broken term_bytes a_record lists_bytes stage_bytes encode share
 below = 0
 
 -- those of the direct sharing
@@ -34,7 +34,7 @@ placing = 0
 
 -- and all of them
 unfoldable pub computing : ℕ
-unfolding below placing writing_answer writing_after produced produced_reason producing output_after ones
+unfolding below placing writing_answer writing_after produced produced_reason ones
 computing = 0
 
 pub bench_answers : map (λ r. producing r.m r.s r.table r.placement (length r.output)) rows ≡ map (λ r. r.answer) rows

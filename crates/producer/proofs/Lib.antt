@@ -2,8 +2,7 @@
 pub mod Terms
 pub mod Theorems
 pub mod Room
-pub mod Writing
-pub mod Filing
-pub mod Answering
-pub mod Leaving
+pub mod DirectFiles
+pub mod Tests
+pub mod ProducingFor
 pub mod Bench

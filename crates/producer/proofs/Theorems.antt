@@ -23,12 +23,12 @@ use Rattle.records.specs.Encode.{encode}
 use Rattle.design.specs.Reading.{means, reading}
 use Rattle.design.proofs.Limits.{bounds, head_number}
 use Rattle.design.proofs.Theorems.{encode_reads}
-use Rattle.records.proofs.Producing.{success_file, success_rest, refusal_after}
+use Rattle.records.proofs.Output.{success_file, success_rest, refusal_after}
 use Rattle.sharing.specs.Stages.{component, Correct, NonComplete}
 use Rattle.sharing.specs.Chain.{chained}
 use Rattle.direct.specs.Direct.{loads, Loads, placed, component_for, published, direct_stage, direct_sharing, Shareable, Box}
 use Rattle.producer.specs.Producing.{produced, produced_reason, Succeeds, output_after}
-use Rattle.producer.proofs.Answering.{TableTested, table_tested, reason_placement, reason_degree, reason_last}
+use Rattle.producer.proofs.Tests.{TableTested, table_tested, reason_placement, reason_degree, reason_last}
 use Rattle.direct.proofs.Loading.{loaded, loading, placed_outside, published_loads, published_rule}
 use Rattle.direct.proofs.Stage.{sharing_congr, direct_correct, direct_non_complete}
 use Rattle.direct.proofs.Formed.{sharing_formed}
@@ -177,15 +177,12 @@ published_placement m s t h =
 module _ (m s : ℕ) (t l out : List ℕ) where
   -- on success the file stands at its start, whatever stood there: its bytes depend on m, s, the table and the placement alone
   pub output_file : produced_reason m s t l (length out) ≡ 0 → take (length (produced m s t l)) (output_after m s t l out) ≡ produced m s t l
-  unfolding output_after
   output_file e = success_file _ (produced m s t l) e out
 
   -- and past the file nothing has changed
   pub output_rest : produced_reason m s t l (length out) ≡ 0 → drop (length (produced m s t l)) (output_after m s t l out) ≡ drop (length (produced m s t l)) out
-  unfolding output_after
   output_rest e = success_rest _ (produced m s t l) e out
 
   -- a refusal leaves the output untouched
   pub output_refused : produced_reason m s t l (length out) ≢ 0 → output_after m s t l out ≡ out
-  unfolding output_after
   output_refused n = refusal_after _ (produced m s t l) n out

@@ -48,11 +48,11 @@ pub record Succeeds (m s : ℕ) (t l : List ℕ) (room : ℕ) : Type 0 where
   pub fits : length (produced m s t l) ≤ room
 
 -- the answer: a refusal has length 0
-unfoldable pub producing : ℕ → ℕ → List ℕ → List ℕ → ℕ → Produced
+abbrev pub producing : ℕ → ℕ → List ℕ → List ℕ → ℕ → Produced
 producing m s t l room = writing_answer (produced_reason m s t l room) (produced m s t l)
 
 -- the output afterwards: untouched on a refusal, else the file and then what stood past it
-unfoldable pub output_after : ℕ → ℕ → List ℕ → List ℕ → List ℕ → List ℕ
+abbrev pub output_after : ℕ → ℕ → List ℕ → List ℕ → List ℕ → List ℕ
 output_after m s t l out = writing_after (produced_reason m s t l (length out)) (produced m s t l) out
 
 -- ---- how long the file is

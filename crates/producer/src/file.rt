@@ -3,23 +3,23 @@ ghost use Rattle.std.specs.Prelude.{◌≡◌, ◌+◌, ◌^◌, ◌≤◌, leng
 
 use direct::{Rule, TermList};
 use finite::power;
-use records::{Kind, Writer, record_size};
+use records::{Writer, record_size};
 
-// What the file is made of: the rule, the table of the box, and the coefficient words of the box.
+// A file that is not written yet: the rule, the table of the box, and the coefficient words of the box.
 #[derive(Clone, Copy)]
-pub struct Parts<'a> {
+pub struct DirectFile<'a> {
     pub rule: Rule<'a>,
     pub table: &'a [u8],
     pub words: &'a [u8],
     pub ghost sizes: { (length table.now ≡ 2 ^ rule.m) × (2 ^ rule.m ≤ length words.now) },
 }
 
-impl Parts<'_> {
-    ghost use Rattle.records.specs.Inside.Overwriting.{list_records};
-    ghost use Rattle.records.specs.Inside.Writes.{Writes};
+impl DirectFile<'_> {
+    ghost use Rattle.records.specs.Encode.{lists_bytes};
+    ghost use Rattle.records.specs.Inside.Writes.{Room, Writes};
     ghost use Rattle.producer.specs.Producing.{terms_count, produced_length};
     ghost use Rattle.producer.specs.Inside.Filing.{terms_bound};
-    ghost use Rattle.producer.specs.Inside.Made.{tables_of, lists_of, made};
+    ghost use Rattle.producer.specs.Inside.Made.{lists_of, made};
 
     // How many terms the lists have together: s^d for each term of d variables in each bit that has it, whatever the placement is.
     fn terms(&self) -> usize
@@ -41,20 +41,10 @@ impl Parts<'_> {
         tables + lists + record_size(0)
     }
 
-    // Writes the records before the lists.
-    fn put_tables(&self, writer: &mut Writer<'_>)
-        requires { writer.old.at + length (tables_of self.now) ≤ length writer.old.out.now }
-        ensures { Writes writer.old writer.new (tables_of self.now) }
-    {
-        writer.numbers(self.rule.m, self.rule.s, 1);
-        writer.record(Kind::Table, self.table);
-        writer.record(Kind::Table, self.table);
-    }
-
     // Writes the records of the lists.
     fn put_lists(&self, writer: &mut Writer<'_>)
-        requires { writer.old.at + length (list_records (lists_of self.now)) ≤ length writer.old.out.now }
-        ensures { Writes writer.old writer.new (list_records (lists_of self.now)) }
+        requires { Room writer.old (lists_bytes (lists_of self.now)) }
+        ensures { Writes writer.old writer.new (lists_bytes (lists_of self.now)) }
     {
         let mut list = TermList::new();
         for i in 0..self.rule.m * self.rule.s {
@@ -66,10 +56,11 @@ impl Parts<'_> {
 
     // Writes the file.
     pub fn put(&self, writer: &mut Writer<'_>)
-        requires { writer.old.at + length (made self.now) ≤ length writer.old.out.now }
+        requires { Room writer.old (made self.now) }
         ensures { Writes writer.old writer.new (made self.now) }
     {
-        self.put_tables(writer);
+        writer.front(self.rule.m, self.rule.s, 1, self.table);
+        writer.table(self.table);
         self.put_lists(writer);
         writer.end();
     }

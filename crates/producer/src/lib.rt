@@ -11,7 +11,7 @@ use anf::{repeats, transform, words_degree};
 use design::{GREATEST_POINTS, Head};
 use direct::Rule;
 pub use direct::published_placement;
-use file::Parts;
+use file::DirectFile;
 use reasons::Reason;
 use records::Writer;
 
@@ -35,16 +35,16 @@ fn produce_for(
     if head.s <= degree {
         return Err(Reason::DegreeTooHigh);
     }
-    let parts = Parts {
+    let file = DirectFile {
         rule,
         table,
         words: &words,
     };
-    let size = parts.size();
+    let size = file.size();
     if output.len() < size {
         return Err(Reason::OutputTooShort);
     }
-    parts.put(&mut Writer::new(output));
+    file.put(&mut Writer::new(output));
     Ok(size)
 }
 

@@ -4,4 +4,5 @@ pub mod Concat
 pub mod Overwriting
 pub mod ListRecords
 pub mod Writes
-pub mod Producing
+pub mod Pieces
+pub mod Output

@@ -8,7 +8,7 @@ use lib.ListN.{length, get_or, take, drop, length-take, length-append, take-appe
 use lib.Seq.{take-suc, take-length}
 use Rattle.records.specs.Bytes.{four, term_bytes}
 use Rattle.records.specs.Records.{a_record, list_record}
-use Rattle.records.specs.Inside.Overwriting.{list_records}
+use Rattle.records.specs.Encode.{lists_bytes}
 use Rattle.records.proofs.Concat.{concat_map_append, concat_more}
 use Rattle.records.proofs.TermBytes.{length_term_bytes}
 
@@ -41,27 +41,27 @@ list_record_length ts = record_length 3 (term_bytes ts) ∙ omega (arith, length
 
 -- ---- the records of lists, one behind the other
 
-records_append : (a b : List (List ℕ)) → list_records (a ++ b) ≡ list_records a ++ list_records b
-unfolding list_records
+records_append : (a b : List (List ℕ)) → lists_bytes (a ++ b) ≡ lists_bytes a ++ lists_bytes b
+unfolding lists_bytes
 records_append a b = concat_map_append list_record a b
 
-pub records_none : (ls : List (List ℕ)) → list_records (take 0 ls) ≡ []
-unfolding list_records
+pub records_none : (ls : List (List ℕ)) → lists_bytes (take 0 ls) ≡ []
+unfolding lists_bytes
 records_none ls = refl
 
-pub records_more : (ls : List (List ℕ)) (i : ℕ) → i < length ls → list_records (take (i + 1) ls) ≡ list_records (take i ls) ++ list_record (get_or ls i [])
-unfolding list_records
+pub records_more : (ls : List (List ℕ)) (i : ℕ) → i < length ls → lists_bytes (take (i + 1) ls) ≡ lists_bytes (take i ls) ++ list_record (get_or ls i [])
+unfolding lists_bytes
 records_more ls i h = concat_more list_record ls i [] h
 
-pub records_all : (ls : List (List ℕ)) → list_records (take (length ls) ls) ≡ list_records ls
-records_all ls = ap list_records (take-length ls)
+pub records_all : (ls : List (List ℕ)) → lists_bytes (take (length ls) ls) ≡ lists_bytes ls
+records_all ls = ap lists_bytes (take-length ls)
 
-pub records_within : (ls : List (List ℕ)) (i : ℕ) → i < length ls → length (list_records (take i ls)) + length (list_record (get_or ls i [])) ≤ length (list_records ls)
+pub records_within : (ls : List (List ℕ)) (i : ℕ) → i < length ls → length (lists_bytes (take i ls)) + length (list_record (get_or ls i [])) ≤ length (lists_bytes ls)
 records_within ls i h =
     omega (
       arith,
       ap length (records_more ls i h),
-      length-append (list_records (take i ls)) (list_record (get_or ls i [])),
-      ap length (ap list_records (sym (take-append-drop (i + 1) ls)) ∙ records_append (take (i + 1) ls) (drop (i + 1) ls)),
-      length-append (list_records (take (i + 1) ls)) (list_records (drop (i + 1) ls)),
+      length-append (lists_bytes (take i ls)) (list_record (get_or ls i [])),
+      ap length (ap lists_bytes (sym (take-append-drop (i + 1) ls)) ∙ records_append (take (i + 1) ls) (drop (i + 1) ls)),
+      length-append (lists_bytes (take (i + 1) ls)) (lists_bytes (drop (i + 1) ls)),
     )

@@ -1,4 +1,4 @@
--- "The design file", record by record: the bytes of the one file that means a design.
+-- "The design file", record by record: the bytes of the one file that means a design, and of its pieces.
 use Rattle.std.specs.Prelude.{ℕ, List, [], ◌∷◌, ◌++◌, map}
 use Rattle.std.specs.List.{concat}
 use Rattle.records.specs.Records.{a_record, list_record, end_record}
@@ -8,10 +8,22 @@ use Rattle.records.specs.Design.{Stage, Design}
 abbrev pub head_body : Design → List ℕ
 head_body d = d.m ∷ d.s ∷ d.k ∷ []
 
+-- the front of a file: the head and the box
+abbrev pub front_bytes : (m s k : ℕ) → List ℕ → List ℕ
+front_bytes m s k box = a_record 1 (m ∷ s ∷ k ∷ []) ++ a_record 2 box
+
+-- the lists of a stage
+unfoldable pub lists_bytes : List (List ℕ) → List ℕ
+lists_bytes ls = concat (map list_record ls)
+
 -- a stage: its table, then its lists
 unfoldable pub stage_bytes : Stage → List ℕ
-stage_bytes g = a_record 2 g.table ++ concat (map list_record g.lists)
+stage_bytes g = a_record 2 g.table ++ lists_bytes g.lists
+
+-- stages
+abbrev pub stages_bytes : List Stage → List ℕ
+stages_bytes gs = concat (map stage_bytes gs)
 
 -- the file: the head, the box, the stages, the end
 unfoldable pub encode : Design → List ℕ
-encode d = a_record 1 (head_body d) ++ (a_record 2 d.box ++ (concat (map stage_bytes d.stages) ++ end_record))
+encode d = a_record 1 (head_body d) ++ (a_record 2 d.box ++ (stages_bytes d.stages ++ end_record))

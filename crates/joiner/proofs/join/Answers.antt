@@ -1,6 +1,6 @@
 -- `joiner::join` meets its contract: the first is read, then the second.
 use Rattle.std.proofs.lemmas.Result.{err_from_is_err_and}
-use Rattle.records.proofs.Producing.{answered}
+use Rattle.records.proofs.Output.{answered}
 use Rattle.joiner.proofs.JoiningDesigns.{first_unread, second_unread, same_answer, same_output}
 use Rattle.joiner.proofs.join.Goals as goal
 

@@ -1,7 +1,7 @@
 -- `produce` meets its contract, by the head of m and s, if there is one.
 use Rattle.std.proofs.lemmas.Result.{err_from_is_err_and}
-use Rattle.producer.proofs.Answering.{answered}
-use Rattle.producer.proofs.Leaving.{beyond, head_value, head_output}
+use Rattle.records.proofs.Output.{answered}
+use Rattle.producer.proofs.ProducingFor.{beyond, head_value, head_output}
 use Rattle.producer.proofs.produce.Goals as goal
 
 pub returns-in_err-head : goal.returns-in_err-head

@@ -1,8 +1,9 @@
--- `produce_for` meets its contract: each way out is a law of `Leaving`, whose premises `search` finds among what is known there.
+-- `produce_for` meets its contract: each way out is a law of `ProducingFor`, whose premises `search` finds among what is known there.
 use Rattle.std.proofs.Common.{length}
 use Rattle.std.proofs.lemmas.Result.{err_from_is_err_and}
-use Rattle.producer.proofs.Answering.{answered, DegreeTested}
-use Rattle.producer.proofs.Leaving.{input_refused, entry_repeats, points_within, words_taken, unloaded, degree_high, all_words, sized, ready, too_short, file_room, writes}
+use Rattle.records.proofs.Output.{answered}
+use Rattle.producer.proofs.Tests.{DegreeTested}
+use Rattle.producer.proofs.ProducingFor.{input_refused, entry_repeats, points_within, words_taken, unloaded, degree_high, all_words, sized, ready, too_short, file_room, file_written}
 use Rattle.producer.proofs.produce_for.Goals as goal
 
 pub returns-in_err-transform : goal.returns-in_err-transform
@@ -32,8 +33,8 @@ returns-then-head-degree c =
     let u = c.in_ok-rule.ensures in
     answered (search (degree_high, u.loaded))
 
-pub invariant_of-parts : goal.invariant_of-parts
-invariant_of-parts c =
+pub invariant_of-file : goal.invariant_of-file
+invariant_of-file c =
     let e = c.in_ok-transform.ensures in
     let u = c.in_ok-rule.ensures in
     record { sizes = (search sized, search all_words) }
@@ -57,4 +58,4 @@ returns c =
     let e = c.in_ok-transform.ensures in
     let u = c.in_ok-rule.ensures in
     let r : DegreeTested c.args.head.m c.args.head.s c.args.table.now c.args.placement.now c.transform.new.output (length c.args.output.now) = search (ready, u.loaded) in
-    answered (search writes)
+    answered (search file_written)

@@ -1,13 +1,8 @@
 -- The file of a direct sharing part by part.
-use Rattle.std.specs.Prelude.{ℕ, ◌*◌, ◌^◌, List, [], ◌∷◌, ◌++◌, get_or}
-use Rattle.records.specs.Records.{a_record}
+use Rattle.std.specs.Prelude.{ℕ, ◌*◌, ◌^◌, List, [], ◌∷◌, get_or}
 use Rattle.design.specs.Limits.{greatest_width, greatest_shares, greatest_points}
 use Rattle.records.specs.Encode.{encode}
 use Rattle.direct.specs.Direct.{direct_lists}
-
--- the records before the lists: the head, S and G, which are equal
-unfoldable pub table_records : ℕ → ℕ → List ℕ → List ℕ
-table_records m s t = a_record 1 (m ∷ s ∷ 1 ∷ []) ++ (a_record 2 t ++ a_record 2 t)
 
 -- the file of one stage with G equal to S
 unfoldable pub one_stage_file : ℕ → ℕ → List ℕ → List (List ℕ) → List ℕ

@@ -1,5 +1,8 @@
-use Rattle.records.proofs.Writes.{no_term_written, term_room, term_written, list_written}
+use Rattle.records.proofs.Writes.{list_head_room, no_term_written, term_room, term_written, list_written}
 use Rattle.records.proofs.writer.Writer.list.Goals as goal
+
+pub head-requires-clause-room : goal.head-requires-clause-room
+head-requires-clause-room c = search list_head_room
 
 pub loop-term-init : goal.loop-term-init
 loop-term-init c = search no_term_written

@@ -1,6 +1,0 @@
--- The loop's invariant: the terms that the words below u bring are counted.
-use Rattle.producer.proofs.Filing.{Counted}
-use Rattle.producer.proofs.file.Parts.terms.Given as goal
-
-abbrev pub invariant-loop-u : goal.invariant-loop-u
-invariant-loop-u l = Counted l.self.rule.s l.self.words.now l.u l.terms
