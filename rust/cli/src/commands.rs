@@ -11,6 +11,7 @@ mod man;
 mod produce;
 mod run;
 mod transform;
+mod verilog;
 
 use crate::arguments::Arguments;
 use crate::command::Command;
@@ -23,7 +24,7 @@ use std::ffi::{OsStr, OsString};
 use std::process::ExitCode;
 
 /// Every command, as help lists them.
-pub static COMMANDS: [Command; 11] = [
+pub static COMMANDS: [Command; 12] = [
     judge::JUDGE,
     explain::EXPLAIN,
     assemble::ASSEMBLE,
@@ -32,6 +33,7 @@ pub static COMMANDS: [Command; 11] = [
     forecast::FORECAST,
     join::JOIN,
     transform::TRANSFORM,
+    verilog::VERILOG,
     help::HELP,
     completions::COMPLETIONS,
     man::MAN,

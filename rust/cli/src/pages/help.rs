@@ -53,7 +53,7 @@ pub fn page(command: &Command) -> String {
     let lines: String =
         options.iter().map(|(names, about)| filled(&format!("  {names:column$}   "), column + 5, about)).collect();
     let status = filled("Exit status: ", 0, command.status);
-    let head = format!("{}\n\n{}", usage(command, true), paragraphs(command.text));
+    let head = format!("{}\n{}", filled("", 10, &usage(command, true)), paragraphs(command.text));
     format!("{head}{lines}\n{status}\n{}", example(command.example))
 }
 

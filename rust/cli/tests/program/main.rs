@@ -3,6 +3,7 @@
 mod assemble;
 mod explain;
 mod files;
+mod html;
 mod judge;
 mod operations;
 mod page;
@@ -10,5 +11,7 @@ mod pages;
 mod samples;
 mod shell;
 mod texts;
+mod verilog;
+mod ways;
 mod why;
 mod words;

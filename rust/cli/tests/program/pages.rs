@@ -19,7 +19,7 @@ fn help() {
     let all = shell("jestrunas --help");
     assert_eq!((all.status, all.err.as_str(), examples_work(&all.out)), (0, "", 1));
     let commands: Vec<&str> = all.out.lines().filter_map(|line| line.strip_prefix("  jestrunas ")).collect();
-    assert_eq!(commands.len(), 11);
+    assert_eq!(commands.len(), 12);
     for command in commands {
         let name = command.split(' ').next().unwrap();
         let page = shell(&format!("jestrunas {name} --help"));
