@@ -6,6 +6,7 @@
 mod tally; // tally.rt: how the lines ended, counted
 
 use jestrunas::Verdict;
+use reasons::Reason;
 use std::io;
 use std::io::Read;
 use tally::{Outcome, Tally};
@@ -32,7 +33,7 @@ fn judge_file(rt: &impl Print, file: &[u8], workspace: &mut [u8]) -> io::Result<
     print!(rt; " verdict {}", Verdict::from(outcome))?;
     match outcome {
         Ok(_) => Ok(Outcome::Accepted),
-        Err(refusal) => Ok(Outcome::Refused(refusal.reason)),
+        Err(refusal) => Ok(Outcome::Refused(Reason::from(refusal))),
     }
 }
 

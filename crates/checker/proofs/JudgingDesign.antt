@@ -5,8 +5,6 @@ use mathlib.Core.Path.{◌≡◌, sym, ap, ap₂, ◌∙◌}
 use mathlib.Core.Logic.{◌⊎◌, inr}
 use mathlib.Core.List.{List}
 use Rattle.reasons.specs.Numbers.{number}
-use Rattle.reasons.specs.declared.Reason.{Reason}
-use Rattle.reasons.specs.declared.Reason.TheVariants.{BoxRepeats, WorkspaceTooSmall, ChainIsNotBox}
 use Rattle.records.specs.Design.{Design}
 use Rattle.design.specs.WellFormed.{WellFormed}
 use mathlib.Core.Bool.{Bool, true, false, not}
@@ -24,10 +22,11 @@ use Rattle.design.proofs.Written.{read_means}
 use Rattle.design.proofs.Reasons.{reason_range}
 use Rattle.checker.specs.Verdict.{Verdict, answer, workspace_for, chain_is_box, judged, judged_reading, verdict, zeroed, workspace_left, workspace_after}
 use Rattle.checker.specs.Trials.{Judged, counted, trials_of, trials, judging}
-use Rattle.checker.specs.Outcome.{refusal}
 use Rattle.checker.specs.Outcome as outcome
 use Rattle.checker.specs.Inside.Parts.{TablesPermute, with_trials, stages_judged}
-use Rattle.checker.specs.declared.Refusal.{Refusal}
+use Rattle.design.specs.Errors.{fault_reason}
+use Rattle.design.specs.declared.errors.ReadError.{ReadError}
+use Rattle.checker.specs.declared.refusals.Refusal.TheVariants as refusals
 use Rattle.checker.proofs.Passes.{untried}
 use Rattle.checker.proofs.Workspace.{untouched, cleared, late_reasons}
 use Rattle.checker.proofs.Chaining.{chain↔, chain_permutes}
@@ -39,24 +38,27 @@ untried_judged d a b e l h = ap₂ counted e (sym (untried d a l h) ∙ ap (tria
 
 -- ---- `judge`: the file f is refused with the reason r and the place p, or reads as d
 
-module _ (f : List ℕ) (r : Reason) (p : ℕ) (a : refused (number r) p ≡ reading f) where
-  low : 1 ≤ number r
-  low = (reason_range f (number r) p (sym a)).0
+module _ (f : List ℕ) (error : ReadError) (a : refused (number (fault_reason error.fault)) error.place ≡ reading f) where
+  abbrev r : ℕ
+  r = number (fault_reason error.fault)
 
-  high : number r ≤ 7
-  high = (reason_range f (number r) p (sym a)).1
+  low : 1 ≤ r
+  low = (reason_range f r error.place (sym a)).0
 
-  unread : (n : ℕ) → answer (number r) p 0 ≡ verdict f n
+  high : r ≤ 7
+  high = (reason_range f r error.place (sym a)).1
+
+  unread : (n : ℕ) → answer r error.place 0 ≡ verdict f n
   unfolding verdict judged_reading
   unread n = ap (λ (x : Reading). judged_reading x n) a
 
-  pub unread_judged : (v : Refusal) → v ≡ refusal r p 0 → (j : Judged) → j ≡ outcome.untried v → (n : ℕ) → j ≡ judging f n
+  pub unread_judged : (j : Judged) → j ≡ outcome.untried (refusals.Unreadable error) → (n : ℕ) → j ≡ judging f n
   unfolding judging trials
-  unread_judged v is j e n = e ∙ ap outcome.untried is ∙ untried_judged (meaning f) _ _ (unread n) low (omega (arith, high))
+  unread_judged j e n = e ∙ untried_judged (meaning f) _ _ (unread n) low (omega (arith, high))
 
   pub unread_after : (ws : List ℕ) → ws ≡ workspace_after f ws
   unfolding workspace_after
-  unread_after ws = rw (← unread (length ws)) (sym (untouched (meaning f) (number r) ws low (omega (arith, high))))
+  unread_after ws = rw (← unread (length ws)) (sym (untouched (meaning f) r ws low (omega (arith, high))))
 
 module _ (f : List ℕ) (d : Design) (a : means d ≡ reading f) where
   pub read_judged : (n : ℕ) (j : Judged) → j ≡ with_trials d (judged d n) → j ≡ judging f n
@@ -81,8 +83,8 @@ module _ (d : Design) (wf : WellFormed d) where
       unfolding judged
       eight = sym (fault_here _ _ _ _ (box ∙ q))
 
-      pub box_repeated : (v : Refusal) → v ≡ refusal BoxRepeats 0 0 → (j : Judged) → j ≡ outcome.untried v → j ≡ with_trials d (judged d (length ws))
-      box_repeated v is j e = e ∙ ap outcome.untried is ∙ untried_judged d _ _ eight (omega arith) (omega arith)
+      pub box_repeated : (j : Judged) → j ≡ outcome.untried refusals.BoxRepeats → j ≡ with_trials d (judged d (length ws))
+      box_repeated j e = e ∙ untried_judged d _ _ eight (omega arith) (omega arith)
 
       pub box_repeated_after : ws ≡ workspace_left d (judged d (length ws)).reason ws
       box_repeated_after = rw (← eight) (sym (untouched d 8 ws (omega arith) (omega arith)))
@@ -94,8 +96,8 @@ module _ (d : Design) (wf : WellFormed d) where
         unfolding judged
         nine = sym (fault_past _ _ _ _ (box ∙ q) ∙ fault_here _ _ _ _ (lt-ltb _ _ (omega arith)))
 
-        pub no_room : (v : Refusal) → v ≡ refusal WorkspaceTooSmall 0 0 → (j : Judged) → j ≡ outcome.untried v → j ≡ with_trials d (judged d (length ws))
-        no_room v is j e = e ∙ ap outcome.untried is ∙ untried_judged d _ _ nine (omega arith) (omega arith)
+        pub no_room : (j : Judged) → j ≡ outcome.untried refusals.WorkspaceTooSmall → j ≡ with_trials d (judged d (length ws))
+        no_room j e = e ∙ untried_judged d _ _ nine (omega arith) (omega arith)
 
         pub no_room_after : ws ≡ workspace_left d (judged d (length ws)).reason ws
         no_room_after = rw (← nine) (sym (untouched d 9 ws (omega arith) (omega arith)))
@@ -118,8 +120,8 @@ module _ (d : Design) (wf : WellFormed d) where
           unfolding judged
           ten = sym (fault_past _ _ _ _ (box ∙ q) ∙ fault_past _ _ _ _ room ∙ fault_here _ _ _ _ (tested ∙ y))
 
-          pub chain_wrong : (v : Refusal) → v ≡ refusal ChainIsNotBox 0 0 → (j : Judged) → j ≡ outcome.untried v → j ≡ with_trials d (judged d (length ws))
-          chain_wrong v is j e = e ∙ ap outcome.untried is ∙ untried_judged d _ _ ten (omega arith) (omega arith)
+          pub chain_wrong : (j : Judged) → j ≡ outcome.untried refusals.ChainIsNotBox → j ≡ with_trials d (judged d (length ws))
+          chain_wrong j e = e ∙ untried_judged d _ _ ten (omega arith) (omega arith)
 
           pub chain_wrong_after : (ws₁ : List ℕ) → ws₁ ≡ zeroed n ws → ws₁ ≡ workspace_left d (judged d (length ws)).reason ws
           chain_wrong_after ws₁ z = left _ ten (inr (omega arith)) ws₁ z

@@ -3,8 +3,6 @@
 -- Assumes nothing.
 use mathlib.Core.Path.{◌≡◌, sym, ap, ap₂, ◌∙◌}
 use Rattle.std.specs.Prelude.{Option, Some, None, is_some}
-use Rattle.reasons.specs.declared.Reason.TheVariants.{NotCorrect, NotNonComplete, NotUniform}
-use Rattle.reasons.proofs.Numbers.{number_some}
 use mathlib.Core.Bool.{Bool, true, false, not, not-not}
 use Prim.Native.Nat.{ℕ, ◌+◌, ◌*◌, ◌^◌, ◌<◌, ◌≤◌}
 use native.Mathlib.Omega.{arith}
@@ -19,13 +17,27 @@ use Rattle.sharing.specs.Stages.{component, Correct, correct, depends_on_all, no
 use Rattle.sharing.proofs.Tests.{correct↔, not_non_complete}
 use Rattle.sharing.proofs.Stages.{stage_uniform_repeats}
 use Rattle.checker.specs.Verdict.{Verdict, answer}
-use Rattle.checker.specs.Outcome.{refusal, refused_with}
+use Rattle.checker.specs.Outcome.{refused_with}
 use Rattle.checker.specs.Trials.{Judged, correctness_at, uniformity_at, both_passes, trials_of, counted}
 use Rattle.checker.specs.Inside.Parts.{TablesPermute, with_trials, stage_judged, stages_judged, found, first_wrong, offending, first_met, FoundBelow, tries_until, stage_tries, stage_judging, fault_of}
-use Rattle.checker.specs.declared.Refusal.{Refusal}
+use Rattle.checker.specs.declared.refusals.Refusal.{Refusal}
+use Rattle.checker.specs.declared.refusals.Refusal.TheVariants.{Unreadable, BoxRepeats, WorkspaceTooSmall, ChainIsNotBox, NotCorrect, NotNonComplete, NotUniform}
+use Rattle.design.specs.Errors.{fault_reason}
+use Rattle.reasons.proofs.Numbers.{number_some}
+use mathlib.Core.Logic.{◌≢◌}
 use Rattle.checker.proofs.Passes.{found_is, below, none_found, tries_found, correctness_stopped, uniformity_stopped, correctness_most, uniformity_most}
 use Rattle.checker.proofs.Passes.{few_sharings, few_trials, both_none, both_more, both_most, tries_most, at_fault}
 use Rattle.checker.proofs.Steps.{stage_then, stages_from, stages_next, stages_end, stages_all, stage_fault, stage_fine}
+
+-- a refusal's number is not 0
+refusal_some : (r : Refusal) → (refused_with r).reason ≢ 0
+refusal_some (Unreadable error) = number_some (fault_reason error.fault)
+refusal_some BoxRepeats = λ z. omega arith
+refusal_some WorkspaceTooSmall = λ z. omega arith
+refusal_some ChainIsNotBox = λ z. omega arith
+refusal_some (NotCorrect stage) = λ z. omega arith
+refusal_some (NotNonComplete stage component) = λ z. omega arith
+refusal_some (NotUniform stage) = λ z. omega arith
 
 -- what stage t answers, with its trials
 told : (d : Design) (t : ℕ) (v : Verdict) (n : ℕ) → v ≡ stage_judged d t → n ≡ stage_tries d t v.reason → counted v n ≡ stage_judging d t
@@ -54,8 +66,8 @@ module _ (d : Design) (wf : WellFormed d) (t : ℕ) (h : t < d.k) where
         unfolding stage_judged
         wrong = sym (fault_here _ _ _ _ (tested ∙ sym eb ∙ q))
 
-        pub answer_wrong : (v : Refusal) → v ≡ refusal NotCorrect (t + 1) 0 → counted (refused_with v) n ≡ stage_judging d t
-        answer_wrong v is = ap (λ (x : Refusal). counted (refused_with x) n) is ∙ told d t _ n wrong (omega (arith, alone))
+        pub answer_wrong : counted (answer 12 (t + 1) 0) n ≡ stage_judging d t
+        answer_wrong = told d t _ n wrong (omega (arith, alone))
 
       module _ (q : b ≡ false) where
         right : Correct d.m d.s (component d.m g.lists) g.table
@@ -74,8 +86,8 @@ module _ (d : Design) (wf : WellFormed d) (t : ℕ) (h : t < d.k) where
                 let o = found_is d.s depends_fully j (sym w ∙ eo) in
                 ap (λ (x : ℕ). answer 13 (t + 1) (x + 1)) (sym o.1) ∙ sym (fault_past _ _ _ _ (tested ∙ sym eb ∙ q) ∙ fault_here _ _ _ _ (offends ∙ o.0))
 
-            pub answer_reads : (v : Refusal) → v ≡ refusal NotNonComplete (t + 1) (j + 1) → counted (refused_with v) n ≡ stage_judging d t
-            answer_reads v is = ap (λ (x : Refusal). counted (refused_with x) n) is ∙ told d t _ n reads (omega (arith, alone))
+            pub answer_reads : counted (answer 13 (t + 1) (j + 1)) n ≡ stage_judging d t
+            answer_reads = told d t _ n reads (omega (arith, alone))
 
           -- u is the first sharing whose output was met before, i the tries of that pass
           module _ (w : o ≡ None) (tables : TablesPermute d) (u : Option ℕ) (x : u ≡ first_met d t) where
@@ -104,8 +116,8 @@ module _ (d : Design) (wf : WellFormed d) (t : ℕ) (h : t < d.k) where
                   unfolding stage_judged
                   twice = sym (fault_past _ _ _ _ (tested ∙ sym eb ∙ q) ∙ fault_past _ _ _ _ (offends ∙ none) ∙ fault_here _ _ _ _ (marks ∙ sym ec ∙ y))
 
-                  pub answer_twice : (v : Refusal) → v ≡ refusal NotUniform (t + 1) 0 → counted (refused_with v) (n + i) ≡ stage_judging d t
-                  answer_twice v is = ap (λ (x : Refusal). counted (refused_with x) (n + i)) is ∙ told d t _ (n + i) twice (omega (arith, alone, more))
+                  pub answer_twice : counted (answer 14 (t + 1) 0) (n + i) ≡ stage_judging d t
+                  answer_twice = told d t _ (n + i) twice (omega (arith, alone, more))
 
                 -- no fault
                 module _ (y : c ≡ false) where
@@ -162,7 +174,7 @@ module _ (d : Design) (wf : WellFormed d) (t trials : ℕ) (to : FaultlessTo d t
     pub stages_stop : (r : Refusal) → o ≡ Some r → counted (refused_with r) (trials + z) ≡ with_trials d (stages_judged d)
     stages_stop r w =
         let v : refused_with r ≡ stage_judged d t = sym (ap fault_of w) ∙ is in
-        let n : (stage_judged d t).reason ≡ 0 → ⊥ = λ y. number_some r.reason (ap (λ (v : Verdict). v.reason) v ∙ y) in
+        let n : (stage_judged d t).reason ≡ 0 → ⊥ = λ y. refusal_some r (ap (λ (v : Verdict). v.reason) v ∙ y) in
         ap₂ counted v (omega (arith, to.took, took) ∙ sym (at_fault d t n)) ∙ ap (with_trials d) (sym (next ∙ stage_fault d t (stages_from d (t + 1)) n))
 
     pub stages_go : o ≡ None → FaultlessTo d (t + 1) (trials + z)

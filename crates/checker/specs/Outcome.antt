@@ -2,18 +2,24 @@
 use Rattle.std.specs.Prelude.{ℕ, Result, Ok, Err}
 use Rattle.reasons.specs.Numbers.{number}
 use Rattle.reasons.specs.declared.Reason.{Reason}
+use Rattle.reasons.specs.declared.Reason.TheVariants as reasons
+use Rattle.design.specs.Errors.{fault_reason}
 use Rattle.checker.specs.Verdict.{Verdict, answer}
 use Rattle.checker.specs.Trials.{Forecast, Judged, counted, no_forecast}
-use Rattle.checker.specs.declared.Refusal.{Refusal}
+use Rattle.checker.specs.declared.refusals.Refusal.{Refusal}
+use Rattle.checker.specs.declared.refusals.Refusal.TheVariants.{Unreadable, BoxRepeats, WorkspaceTooSmall, ChainIsNotBox, NotCorrect, NotNonComplete, NotUniform}
 use Rattle.checker.specs.declared.Judgement.{Judgement}
 use Rattle.checker.specs.declared.Needs.{Needs}
 
-abbrev pub refusal : Reason → ℕ → ℕ → Refusal
-refusal r place component = record { reason = r; place = place; component = component }
-
--- a refusal answers its reason's number
+-- a refusal answers its reason's number, and the place and the component that it names
 abbrev pub refused_with : Refusal → Verdict
-refused_with r = answer (number r.reason) r.place r.component
+refused_with (Unreadable error) = answer (number (fault_reason error.fault)) error.place 0
+refused_with BoxRepeats = answer (number reasons.BoxRepeats) 0 0
+refused_with WorkspaceTooSmall = answer (number reasons.WorkspaceTooSmall) 0 0
+refused_with ChainIsNotBox = answer (number reasons.ChainIsNotBox) 0 0
+refused_with (NotCorrect stage) = answer (number reasons.NotCorrect) stage 0
+refused_with (NotNonComplete stage component) = answer (number reasons.NotNonComplete) stage component
+refused_with (NotUniform stage) = answer (number reasons.NotUniform) stage 0
 
 -- acceptance answers 0, and the number of stages as the place
 abbrev pub verdict_of : Result ℕ Refusal → Verdict

@@ -3,6 +3,7 @@
 
 mod forecasts; // forecasts.rt: the workspace and the most trials, from the head
 mod marks; // marks.rt: marks in a lent workspace
+mod refusals; // refusals.rt: why a file is refused
 mod stages; // stages.rt: one stage judged on all its sharings
 mod tables; // tables.rt: the chain of tables
 
@@ -10,48 +11,17 @@ ghost use Rattle.std.specs.Prelude.{◌≡◌, ◌<◌, length};
 ghost use Rattle.design.specs.Inside.Held.{design_of};
 ghost use Rattle.checker.specs.Verdict.{judged, workspace_left, workspace_after};
 ghost use Rattle.checker.specs.Trials.{judging};
-ghost use Rattle.checker.specs.Outcome.{refusal, judged_of, untried};
+ghost use Rattle.checker.specs.Outcome.{judged_of, untried};
 ghost use Rattle.checker.specs.Inside.Parts.{TablesPermute, with_trials, stages_judged, stage_judging, stage_judged_of};
 ghost use Rattle.checker.specs.Inside.Marks.{Cleared};
 
-use design::{DesignFile, ReadError};
+use design::DesignFile;
 pub use forecasts::foresee;
 use forecasts::workspace_for;
 use marks::clear;
-use reasons::Reason;
+pub use refusals::Refusal;
 use stages::{first_met, first_wrong, offending, tries};
 use tables::chain_is_box;
-
-/// Why a file is refused, and the place and the component that the reason names: 0 where it names none, as published.
-#[derive(Clone, Copy, Debug, PartialEq, Eq)]
-pub struct Refusal {
-    pub reason: Reason,
-    pub place: usize,
-    pub component: usize,
-}
-
-impl Refusal {
-    fn new(reason: Reason, place: usize, component: usize) -> Refusal
-        ensures { result ≡ refusal reason place component }
-    {
-        Refusal {
-            reason,
-            place,
-            component,
-        }
-    }
-}
-
-impl From<ReadError> for Refusal {
-    ghost use Rattle.std.specs.Prelude.{◌≡◌};
-    ghost use Rattle.checker.specs.Outcome.{refusal};
-
-    ghost from_gives = { λ error r. r ≡ refusal error.reason error.place 0 };
-
-    fn from(error: ReadError) -> Refusal {
-        Refusal::new(error.reason, error.place, 0)
-    }
-}
 
 /// What judging a file comes to, the number of stages where it is accepted, and how many trials it took.
 #[derive(Clone, Copy, Debug, PartialEq, Eq)]
@@ -97,13 +67,16 @@ fn judge_stage(design: &DesignFile<'_>, t: usize, workspace: &mut [u8]) -> Stage
     let once = tries(design.head, wrong);
     if wrong.is_some() {
         return StageJudgement {
-            fault: Some(Refusal::new(Reason::NotCorrect, t + 1, 0)),
+            fault: Some(Refusal::NotCorrect { stage: t + 1 }),
             trials: once,
         };
     }
     if let Some(j) = offending(design, t) {
         return StageJudgement {
-            fault: Some(Refusal::new(Reason::NotNonComplete, t + 1, j + 1)),
+            fault: Some(Refusal::NotNonComplete {
+                stage: t + 1,
+                component: j + 1,
+            }),
             trials: once,
         };
     }
@@ -111,7 +84,7 @@ fn judge_stage(design: &DesignFile<'_>, t: usize, workspace: &mut [u8]) -> Stage
     let both = once + tries(design.head, met);
     if met.is_some() {
         return StageJudgement {
-            fault: Some(Refusal::new(Reason::NotUniform, t + 1, 0)),
+            fault: Some(Refusal::NotUniform { stage: t + 1 }),
             trials: both,
         };
     }
@@ -151,15 +124,15 @@ fn judge_design(design: &DesignFile<'_>, workspace: &mut [u8]) -> Judgement
     ensures workspace_after { workspace.new ≡ workspace_left (design_of design.now) (judged (design_of design.now) (length workspace.old)).reason workspace.old }
 {
     if anf::repeats(design.box_table()) {
-        return Judgement::untried(Refusal::new(Reason::BoxRepeats, 0, 0));
+        return Judgement::untried(Refusal::BoxRepeats);
     }
     let n = workspace_for(design.head);
     if workspace.len() < n {
-        return Judgement::untried(Refusal::new(Reason::WorkspaceTooSmall, 0, 0));
+        return Judgement::untried(Refusal::WorkspaceTooSmall);
     }
     clear(workspace, n);
     if !chain_is_box(design) {
-        return Judgement::untried(Refusal::new(Reason::ChainIsNotBox, 0, 0));
+        return Judgement::untried(Refusal::ChainIsNotBox);
     }
     judge_stages(design, workspace)
 }
@@ -171,6 +144,6 @@ pub fn judge(file: &[u8], workspace: &mut [u8]) -> Judgement
 {
     match design::read(file) {
         Ok(design) => judge_design(&design, workspace),
-        Err(error) => Judgement::untried(Refusal::from(error)),
+        Err(error) => Judgement::untried(Refusal::Unreadable(error)),
     }
 }

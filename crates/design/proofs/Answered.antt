@@ -16,7 +16,8 @@ use Rattle.design.specs.Limits.{Head}
 use Rattle.design.specs.Layout.{Layout}
 use Rattle.design.specs.Heads.{design_by}
 use Rattle.reasons.specs.Numbers.{number}
-use Rattle.reasons.specs.declared.Reason.{Reason}
+use Rattle.design.specs.Errors.{fault_reason}
+use Rattle.design.specs.declared.errors.Fault.{Fault}
 use Rattle.reasons.proofs.Numbers.{number_some}
 use Rattle.design.proofs.Limits.{Bounds}
 use Rattle.design.proofs.Found.{limited}
@@ -76,5 +77,5 @@ module _ (f : List ℕ) (l : Layout) (a : l ≡ layout_of f) where
       go (refused x y) e = let q : l ≡ refused_layout x y = a ∙ ap (layout_of_reading f) e in rw q refl
       go (means d) e = absurd (n (answers_zero d e))
 
-pub refused_as : (f : List ℕ) (r : Reason) (p : ℕ) → refused_layout (number r) p ≡ layout_of f → refused (number r) p ≡ reading f
-refused_as f r p a = sym (refuses f _ a (number_some r))
+pub refused_as : (f : List ℕ) (r : Fault) (p : ℕ) → refused_layout (number (fault_reason r)) p ≡ layout_of f → refused (number (fault_reason r)) p ≡ reading f
+refused_as f r p a = sym (refuses f _ a (number_some (fault_reason r)))

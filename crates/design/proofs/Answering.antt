@@ -30,6 +30,10 @@ use Rattle.design.specs.Layout.{HeadRead}
 use Rattle.design.specs.Layout.{Layout}
 use Rattle.std.specs.Prelude.{Result, Ok, Err}
 use Rattle.reasons.specs.declared.Reason.{Reason}
+use Rattle.design.specs.Errors.{fault_reason}
+use Rattle.design.specs.declared.errors.Fault.{Fault}
+use Rattle.design.specs.declared.errors.Fault.TheVariants as faults
+use Rattle.std.specs.Result.{result_or}
 use Rattle.reasons.specs.declared.Reason.TheVariants.{LimitBroken}
 use Rattle.design.proofs.Answered.{answers_described}
 use Rattle.design.proofs.Records.{fault_framed}
@@ -84,9 +88,9 @@ walked_first f h starts e q m k z l s =
 module _ (f : List ℕ) (h : Head) (n : ℕ) (starts : List ℕ) (i at : ℕ) (w : Walked f h n starts i at) where
   -- a record is tested: r is its fault, b the length of its body
   module _ (l : i < n) where
-    pub walk_stopped : (r : Reason) → number r ≡ fault_at f h i at → refused_layout (number r) at ≡ layout_of f
+    pub walk_stopped : (r : Fault) → number (fault_reason r) ≡ fault_at f h i at → refused_layout (number (fault_reason r)) at ≡ layout_of f
     walk_stopped r er =
-        let d : fault_at f h i at ≡ 0 → ⊥ = λ z. number_some r (er ∙ z) in
+        let d : fault_at f h i at ≡ 0 → ⊥ = λ z. number_some (fault_reason r) (er ∙ z) in
         answers_refused f _ _ _ (w.rest ∙ walk_stop f h n i at l d) (ap (λ (x : ℕ). refused_layout x at) er)
 
     pub walked_more : 0 ≡ fault_at f h i at → (b : ℕ) → b ≡ u16_at f at → Walked f h n (set starts i (at + 4)) (i + 1) (at + 4 + b)
@@ -136,8 +140,8 @@ module _ (f : List ℕ) where
   unfolding head_read
   refused_head_lem r e n = sym (pick_false _ _ _ (ne_eqb (head_fault f) 0 (λ z. n (sym e ∙ z))) ∙ ap refused_head e)
 
-  pub head_cut : (r : Reason) → number r ≡ frame_fault f 0 (code kinds.Head) 3 → refused_head (number r) ≡ head_read f
-  head_cut r e = refused_head_lem (number r) (head_frame f (λ z. number_some r (e ∙ z)) ∙ sym e) (number_some r)
+  pub head_cut : (r : Fault) → number (fault_reason r) ≡ frame_fault f 0 (code kinds.Head) 3 → refused_head (number (fault_reason r)) ≡ head_read f
+  head_cut r e = refused_head_lem (number (fault_reason r)) (head_frame f (λ z. number_some (fault_reason r) (e ∙ z)) ∙ sym e) (number_some (fault_reason r))
 
   module _ (z : 0 ≡ frame_fault f 0 (code kinds.Head) 3) (b : List ℕ) (eb : b ≡ take (u16_at f 0) (drop (0 + 4) f)) where
     three : (u16_at f 0 ≡ 3) × (7 ≤ length f)
@@ -169,19 +173,21 @@ module _ (f : List ℕ) where
       is_good h true g = let w : ◌≡◌ {A = ℕ} 0 1 = cc in absurd (omega arith)
       is_good h false g = (cc, refl)
 
-      is_beyond : (r : Reason) (c : Bool) → pick c (Err LimitBroken) (Ok (head_of f)) ≡ Err r → (r ≡ LimitBroken) × (c ≡ true)
-      is_beyond r true g = (cc, refl)
+      is_beyond : (r : Reason) (c : Bool) → pick c (Err LimitBroken) (Ok (head_of f)) ≡ Err r → c ≡ true
+      is_beyond r true g = refl
       is_beyond r false g = let w : ◌≡◌ {A = ℕ} 0 1 = cc in absurd (omega arith)
 
-      pub head_answered : (y : Result heads.Head Reason) → head_outcome y ≡ checked m s k → head_reading y ≡ head_read f
+      -- y is the answer of the constructor
+      pub head_answered : (y : Result heads.Head Reason) → head_outcome y ≡ checked m s k → (z : Result heads.Head Fault) → z ≡ result_or y (Err faults.LimitBroken)
+          → head_reading z ≡ head_read f
       unfolding head_read
-      head_answered (Ok h) e =
+      head_answered (Ok h) e z ez =
           let w = is_good (numbers h) _ (sym (rw (m_is, s_is, k_is) at e)) in
           let n : head_fault f ≡ 0 = fault_is ∙ pick_false (broken (byte f 4) (byte f 5) (byte f 6)) 4 0 w.1 in
-          sym (pick_true _ _ _ (eq-eqb (head_fault f) 0 n) ∙ ap (λ (x : Head). record { reason = 0; head = x }) (sym w.0))
-      head_answered (Err r) e =
+          rw ez (sym (pick_true _ _ _ (eq-eqb (head_fault f) 0 n) ∙ ap (λ (x : Head). record { reason = 0; head = x }) (sym w.0)))
+      head_answered (Err r) e z ez =
           let w = is_beyond r _ (sym (rw (m_is, s_is, k_is) at e)) in
-          rw w.0 (refused_head_lem 4 (fault_is ∙ pick_true (broken (byte f 4) (byte f 5) (byte f 6)) 4 0 w.1) (λ n. omega (arith, n)))
+          rw ez (refused_head_lem 4 (fault_is ∙ pick_true (broken (byte f 4) (byte f 5) (byte f 6)) 4 0 w) (λ n. omega (arith, n)))
 
 -- ---- x is what reading the head record alone answers of the file f
 
@@ -210,7 +216,7 @@ module _ (f : List ℕ) where
   pub head_sound : (h : Head) → record { reason = 0; head = h } ≡ head_read f → fault_at f h 0 0 ≡ 0
   head_sound h e = head_faultless f (record { reason = 0; head = h }) e refl
 
-  pub read_refused : (r : Reason) → refused_head (number r) ≡ head_read f → refused_layout (number r) 0 ≡ layout_of f
+  pub read_refused : (r : Fault) → refused_head (number (fault_reason r)) ≡ head_read f → refused_layout (number (fault_reason r)) 0 ≡ layout_of f
   read_refused r e =
-      let w : number r ≡ head_fault f = head_reason f (refused_head (number r)) e in
-      answers_refused f _ (head_fault f) 0 (head_refused f (λ z. number_some r (w ∙ z))) (ap (λ (x : ℕ). refused_layout x 0) w)
+      let w : number (fault_reason r) ≡ head_fault f = head_reason f (refused_head (number (fault_reason r))) e in
+      answers_refused f _ (head_fault f) 0 (head_refused f (λ z. number_some (fault_reason r) (w ∙ z))) (ap (λ (x : ℕ). refused_layout x 0) w)

@@ -5,6 +5,8 @@ use Rattle.records.specs.Design.{Design}
 use Rattle.design.specs.Reading.{meaning}
 use Rattle.design.specs.Layout.{HeadRead, refused_head, Layout}
 use Rattle.design.specs.declared.heads.Head as heads
+use Rattle.design.specs.declared.errors.Fault.{Fault}
+use Rattle.design.specs.Errors.{fault_reason}
 use Rattle.reasons.specs.declared.Reason.{Reason}
 use Rattle.reasons.specs.Numbers.{number}
 
@@ -18,9 +20,9 @@ head_outcome (Ok h) = Ok (numbers h)
 head_outcome (Err r) = Err r
 
 -- the answer of reading the head record alone
-abbrev pub head_reading : Result heads.Head Reason → HeadRead
+abbrev pub head_reading : Result heads.Head Fault → HeadRead
 head_reading (Ok h) = record { reason = 0; head = numbers h }
-head_reading (Err r) = refused_head (number r)
+head_reading (Err r) = refused_head (number (fault_reason r))
 
 -- the layout of a file that reads, with a head of these numbers, or this head, and these starts
 abbrev pub laid_by : (m s k : ℕ) → List ℕ → Layout

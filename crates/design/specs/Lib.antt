@@ -2,6 +2,7 @@
 pub mod Limits
 pub mod WellFormed
 pub mod Reading
+pub mod Errors
 pub mod Refused
 pub mod Layout
 pub mod Heads

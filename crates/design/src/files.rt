@@ -11,25 +11,7 @@ ghost use Rattle.design.specs.Heads.{numbers, laid, design_by};
 
 use super::reader::body_size;
 use super::{GREATEST_RECORDS, Head, Lists};
-use reasons::Reason;
 use records::{Terms, record_size};
-
-/// Why a file does not read, and where: the first byte of the record at fault, or the first after the end.
-#[derive(Clone, Copy, Debug, PartialEq, Eq)]
-pub struct ReadError {
-    pub reason: Reason,
-    pub place: usize,
-}
-
-impl From<ReadError> for Reason {
-    ghost use Rattle.std.specs.Prelude.{◌≡◌};
-
-    ghost from_gives = { λ error reason. reason ≡ error.reason };
-
-    fn from(error: ReadError) -> Reason {
-        error.reason
-    }
-}
 
 /// A file that reads as a design: its head, and where the body of each record starts, in fixed memory. A stage is named by its number, below k: a struct of
 /// the file and that number would be no plainer, as each loop over stages would have to make one.

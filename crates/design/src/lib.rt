@@ -4,12 +4,14 @@
 ghost use Rattle.std.specs.Prelude.{◌≡◌, ◌^◌, ◌≤◌};
 ghost use Rattle.design.specs.Limits.{greatest_share_bits};
 
+mod errors; // errors.rt: why a file does not read
 mod files; // files.rt: a file that reads, its tables and lists
 mod heads; // heads.rt: the head within the limits, and the records that are due
 mod lists; // lists.rt: lists of a stage
 mod reader; // reader.rt: the tests of each record, and the walk over all
 
-pub use files::{DesignFile, ReadError};
+pub use errors::{Fault, ReadError};
+pub use files::DesignFile;
 use finite::power;
 pub use heads::Head;
 pub use lists::Lists;

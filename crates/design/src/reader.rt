@@ -6,16 +6,15 @@ ghost use Rattle.finite.specs.Tests.{all};
 ghost use Rattle.anf.specs.Terms.{before};
 ghost use Rattle.records.specs.Bytes.{u16_at};
 ghost use Rattle.records.specs.Kinds.{code};
-ghost use Rattle.reasons.specs.Numbers.{reason_of};
+ghost use Rattle.design.specs.Errors.{fault_of};
 ghost use Rattle.design.specs.Reading.{reading, head_of, length_due, term_fits, fault_at};
 ghost use Rattle.design.specs.Inside.Framing.{frame_fault};
 ghost use Rattle.design.specs.Layout.{head_read, layout_of};
 ghost use Rattle.design.specs.Heads.{numbers, head_reading};
 ghost use Rattle.design.specs.Answers.{reading_of, layout_read};
 
-use super::{DesignFile, GREATEST_RECORDS, Head, ReadError};
+use super::{DesignFile, Fault, GREATEST_RECORDS, Head, ReadError};
 use anf::{entries_below, stands_before};
-use reasons::Reason;
 use records::{Kind, Terms, u16_at};
 
 // Whether a record of this kind may have the length `n`.
@@ -37,23 +36,23 @@ pub fn body_size(file: &[u8], at: usize) -> usize
 }
 
 // The body of the record at `at`, where neither its head nor its length has a fault.
-fn framed(file: &[u8], at: usize, kind: Kind, size: usize) -> Result<&[u8], Reason>
+fn framed(file: &[u8], at: usize, kind: Kind, size: usize) -> Result<&[u8], Fault>
     requires { at ≤ length file.now }
-    ensures reason { reason_of result ≡ frame_fault file.now at (code kind) size }
+    ensures fault { fault_of result ≡ frame_fault file.now at (code kind) size }
     ensures body { IfOk result (λ body. body.now ≡ take (u16_at file.now at) (drop (at + 4) file.now)) }
 {
     if file.len() - at < 4 {
-        return Err(Reason::CutShort);
+        return Err(Fault::CutShort);
     }
     if u16_at(file, at + 2) != kind.code() {
-        return Err(Reason::WrongKind);
+        return Err(Fault::WrongKind);
     }
     let n = body_size(file, at);
     if !length_fits(kind, size, n) {
-        return Err(Reason::WrongLength);
+        return Err(Fault::WrongLength);
     }
     if file.len() - at - 4 < n {
-        return Err(Reason::CutShort);
+        return Err(Fault::CutShort);
     }
     Ok(&file[at + 4..at + 4 + n])
 }
@@ -86,9 +85,9 @@ fn terms_fit(body: &[u8], bits: usize) -> bool
 }
 
 // The length of the body of record `i`, which starts at `at`, where the record has no fault.
-fn faultless(file: &[u8], head: Head, i: usize, at: usize) -> Result<usize, Reason>
+fn faultless(file: &[u8], head: Head, i: usize, at: usize) -> Result<usize, Fault>
     requires { (1 ≤ i) × (at ≤ length file.now) }
-    ensures reason { reason_of result ≡ fault_at file.now (numbers head) i at }
+    ensures fault { fault_of result ≡ fault_at file.now (numbers head) i at }
     ensures size { IfOk result (λ n. n ≡ u16_at file.now at) }
 {
     let kind = head.kind_due(i);
@@ -98,13 +97,13 @@ fn faultless(file: &[u8], head: Head, i: usize, at: usize) -> Result<usize, Reas
             if entries_below(body, head.points()) {
                 return Ok(body.len());
             }
-            Err(Reason::EntryTooLarge)
+            Err(Fault::EntryTooLarge)
         }
         Kind::List => {
             if terms_fit(body, head.share_bits()) {
                 return Ok(body.len());
             }
-            Err(Reason::BadTerm)
+            Err(Fault::BadTerm)
         }
         Kind::Head | Kind::End => Ok(body.len()),
     }
@@ -127,12 +126,12 @@ fn walk(file: &[u8], head: Head) -> Result<DesignFile<'_>, ReadError>
                 starts[i] = at + 4;
                 at = at + 4 + n;
             }
-            Err(reason) => return Err(ReadError { reason, place: at }),
+            Err(fault) => return Err(ReadError { fault, place: at }),
         }
     }
     if at < file.len() {
         return Err(ReadError {
-            reason: Reason::BytesFollow,
+            fault: Fault::BytesFollow,
             place: at,
         });
     }
@@ -140,14 +139,14 @@ fn walk(file: &[u8], head: Head) -> Result<DesignFile<'_>, ReadError>
 }
 
 /// Reads the head record alone.
-pub fn read_head(file: &[u8]) -> Result<Head, Reason>
+pub fn read_head(file: &[u8]) -> Result<Head, Fault>
     ensures { head_reading result ≡ head_read file.now }
 {
     let body = framed(file, 0, Kind::Head, 3)?;
     let m = usize::from(body[0]);
     let s = usize::from(body[1]);
     let k = usize::from(body[2]);
-    Head::new(m, s, k)
+    Head::new(m, s, k).or(Err(Fault::LimitBroken))
 }
 
 /// Reads a design file: the head record, then the others.
@@ -159,6 +158,6 @@ pub fn read(file: &[u8]) -> Result<DesignFile<'_>, ReadError>
     // A match, as `map_err` would need a contract at its closure, which is no plainer.
     match read_head(file) {
         Ok(head) => walk(file, head),
-        Err(reason) => Err(ReadError { reason, place: 0 }),
+        Err(fault) => Err(ReadError { fault, place: 0 }),
     }
 }

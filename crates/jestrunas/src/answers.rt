@@ -48,6 +48,29 @@ pub struct Produced {
     pub length: usize,
 }
 
+impl From<Refusal> for Verdict {
+    ghost use Rattle.std.specs.Prelude.{◌≡◌};
+    ghost use Rattle.checker.specs.Outcome.{refused_with};
+    ghost use Rattle.jestrunas.specs.Published.{c_verdict};
+
+    ghost from_gives = { λ refusal answer. answer ≡ c_verdict (refused_with refusal) };
+
+    fn from(refusal: Refusal) -> Verdict {
+        let reason = Reason::from(refusal).number();
+        let (place, component) = match refusal {
+            Refusal::Unreadable(error) => (error.place, 0),
+            Refusal::BoxRepeats | Refusal::WorkspaceTooSmall | Refusal::ChainIsNotBox => (0, 0),
+            Refusal::NotCorrect { stage } | Refusal::NotUniform { stage } => (stage, 0),
+            Refusal::NotNonComplete { stage, component } => (stage, component),
+        };
+        Verdict {
+            reason,
+            place,
+            component,
+        }
+    }
+}
+
 impl From<Result<usize, Refusal>> for Verdict {
     ghost use Rattle.std.specs.Prelude.{◌≡◌};
     ghost use Rattle.checker.specs.Outcome.{verdict_of};
@@ -62,11 +85,7 @@ impl From<Result<usize, Refusal>> for Verdict {
                 place,
                 component: 0,
             },
-            Err(refusal) => Verdict {
-                reason: refusal.reason.number(),
-                place: refusal.place,
-                component: refusal.component,
-            },
+            Err(refusal) => Verdict::from(refusal),
         }
     }
 }

@@ -14,6 +14,7 @@ ghost use Rattle.jestrunas.specs.Published.{c_verdict, c_judged, c_forecast, c_r
 mod answers; // answers.rt: what C is answered
 
 pub use answers::{Forecast, Judged, Produced, Ran, Verdict};
+use checker::Refusal;
 use reasons::Reason;
 use threshold::FiveShares;
 
@@ -24,18 +25,17 @@ pub struct Shares {
     pub share: FiveShares,
 }
 
-// Reads a design file: the first fault and its place, or three zeros. Not by the `From` of a verdict, which has the number of stages where all is well.
+// Reads a design file: the first fault and its place, or three zeros. Where all is well that is not a verdict's answer, which has the number of stages.
 pub fn jestrunas_read(file: &[u8]) -> Verdict
     ensures { result ≡ c_verdict (read_answer file.now) }
 {
-    let (reason, place) = match design::read(file) {
-        Ok(_) => (0, 0),
-        Err(refused) => (refused.reason.number(), refused.place),
-    };
-    Verdict {
-        reason,
-        place,
-        component: 0,
+    match design::read(file) {
+        Ok(_) => Verdict {
+            reason: 0,
+            place: 0,
+            component: 0,
+        },
+        Err(error) => Verdict::from(Refusal::Unreadable(error)),
     }
 }
 

@@ -9,8 +9,8 @@ tries-once-requires c = search below
 pub returns-then-is_some-clause-value : goal.returns-then-is_some-clause-value
 returns-then-is_some-clause-value c = search answer_wrong
 
-pub overflow_add-j : goal.overflow_add-j
-overflow_add-j c = search component_fits
+pub overflow_add-result-in-Some-2 : goal.overflow_add-result-in-Some-2
+overflow_add-result-in-Some-2 c = search component_fits
 
 pub returns-in-Some-clause-value : goal.returns-in-Some-clause-value
 returns-in-Some-clause-value c = search answer_reads

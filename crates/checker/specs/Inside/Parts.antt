@@ -9,7 +9,7 @@ use Rattle.checker.specs.Verdict.{Verdict, answer, stage_faults, stages_faults}
 use Rattle.checker.specs.Accepted.{TablePermutes}
 use Rattle.checker.specs.Trials.{Judged, sums_wrong, output_met, correctness_at, uniformity_at, trials_of, counted}
 use Rattle.checker.specs.Outcome.{refused_with}
-use Rattle.checker.specs.declared.Refusal.{Refusal}
+use Rattle.checker.specs.declared.refusals.Refusal.{Refusal}
 use Rattle.checker.specs.declared.StageJudgement.{StageJudgement}
 
 -- what stage t, counted from 0, answers alone: 0 where it has no fault

@@ -14,4 +14,4 @@ pub returns-in-Ok : goal.returns-in-Ok
 returns-in-Ok c = read_answers _ _ c.in-Ok.ensures.reading
 
 pub returns-in-Err : goal.returns-in-Err
-returns-in-Err c = rw c.number.ensures (read_answers _ _ c.in-Err.ensures.reading)
+returns-in-Err c = rw c.from.ensures (read_answers _ _ c.in-Err.ensures.reading)
