@@ -1,6 +1,8 @@
 -- "To coefficients and back": the answer, and the output afterwards. The sums over subsets of a table are its coefficient words, and of
 -- coefficient words they are the table: one operation goes both ways.
 use Rattle.std.specs.Prelude.{ℕ, ◌^◌, not, ◌||◌, Bool, List, ◌++◌, ◌∷◌, [], eqb, ltb, length, get_or, drop}
+use Rattle.reasons.specs.Numbers.{number}
+use Rattle.reasons.specs.declared.Reason.TheVariants.{WrongLength, LimitBroken, EntryTooLarge, OutputTooShort}
 use Rattle.finite.specs.Tests.{pick, tabulate}
 use Rattle.finite.specs.Faults.{first_fault}
 use Rattle.anf.specs.NormalForm.{subset_sum}
@@ -14,13 +16,13 @@ greatest_width = 6
 abbrev pub transform_faults : ℕ → List ℕ → ℕ → List (Bool × ℕ)
 transform_faults m input room =
     -- m is not 1 to the greatest width
-    (ltb m 1 || ltb greatest_width m, 4) ∷
+    (ltb m 1 || ltb greatest_width m, number LimitBroken) ∷
     -- the input has not 2^m bytes
-    (not (eqb (length input) (2 ^ m)), 3) ∷
+    (not (eqb (length input) (2 ^ m)), number WrongLength) ∷
     -- a word is 2^m or more
-    (not (entries_below input (2 ^ m)), 5) ∷
+    (not (entries_below input (2 ^ m)), number EntryTooLarge) ∷
     -- the output is shorter than 2^m bytes
-    (ltb room (2 ^ m), 17) ∷
+    (ltb room (2 ^ m), number OutputTooShort) ∷
     []
 
 -- the number of the refusal, or 0

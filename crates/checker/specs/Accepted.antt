@@ -1,6 +1,8 @@
 -- What the verdict says of a design, as facts about its tables and component functions ("Terms of threshold implementation", "Linear layers that keep
 -- their shares"); then of a file: when it is accepted ("Verdict").
 use Rattle.std.specs.Prelude.{ℕ, ◌+◌, ◌^◌, ◌<◌, ◌≤◌, ◌≡◌, List}
+use Rattle.reasons.specs.Numbers.{number}
+use Rattle.reasons.specs.declared.Reason.TheVariants.{BoxRepeats, WorkspaceTooSmall, ChainIsNotBox, NotCorrect, NotNonComplete, NotUniform}
 use Rattle.anf.specs.Tables.{entry, Permutation}
 use Rattle.records.specs.Design.{Design, stage_of}
 use Rattle.design.specs.Reading.{refused, means, reading}
@@ -56,13 +58,13 @@ HasRoom n d = workspace_for d.m d.s ≤ n
 
 -- The verdict on a design explained, one case for each outcome in the published order: the fault that it names is there, and none before it is.
 pub data ExplainedDesign (n : ℕ) (d : Design) : Verdict → Type 0 where
-  fault_8 : ¬ Permutation d.m d.box → ExplainedDesign n d (answer 8 0 0)
-  fault_9 : Permutation d.m d.box → n < workspace_for d.m d.s → ExplainedDesign n d (answer 9 0 0)
-  fault_10 : Permutation d.m d.box → HasRoom n d → ¬ ChainIsBox d → ExplainedDesign n d (answer 10 0 0)
-  fault_12 : (t : ℕ) → HasRoom n d → SoundBefore d t → t < d.k → ¬ CorrectAt d t → ExplainedDesign n d (answer 12 (t + 1) 0)
+  fault_8 : ¬ Permutation d.m d.box → ExplainedDesign n d (answer (number BoxRepeats) 0 0)
+  fault_9 : Permutation d.m d.box → n < workspace_for d.m d.s → ExplainedDesign n d (answer (number WorkspaceTooSmall) 0 0)
+  fault_10 : Permutation d.m d.box → HasRoom n d → ¬ ChainIsBox d → ExplainedDesign n d (answer (number ChainIsNotBox) 0 0)
+  fault_12 : (t : ℕ) → HasRoom n d → SoundBefore d t → t < d.k → ¬ CorrectAt d t → ExplainedDesign n d (answer (number NotCorrect) (t + 1) 0)
   fault_13 : (t j : ℕ) → HasRoom n d → SoundBefore d t → t < d.k → CorrectAt d t → j < d.s → ((i : ℕ) → i < j → IgnoresSomeAt d t i) → ¬ IgnoresSomeAt d t j
-      → ExplainedDesign n d (answer 13 (t + 1) (j + 1))
-  fault_14 : (t : ℕ) → HasRoom n d → SoundBefore d t → t < d.k → CorrectAt d t → NonCompleteAt d t → ¬ UniformAt d t → ExplainedDesign n d (answer 14 (t + 1) 0)
+      → ExplainedDesign n d (answer (number NotNonComplete) (t + 1) (j + 1))
+  fault_14 : (t : ℕ) → HasRoom n d → SoundBefore d t → t < d.k → CorrectAt d t → NonCompleteAt d t → ¬ UniformAt d t → ExplainedDesign n d (answer (number NotUniform) (t + 1) 0)
   accepted : HasRoom n d → Sound d → ExplainedDesign n d (answer 0 d.k 0)
 
 -- ---- of a file f, with a workspace of n bytes

@@ -1,6 +1,8 @@
 -- "Machine time before booking": the trials that a verdict takes; and the forecast, from the head record alone, of the workspace and of the most trials.
 -- A trial puts one sharing through one stage.
 use Rattle.std.specs.Prelude.{ℕ, ◌+◌, ◌*◌, ◌-◌, ◌^◌, Bool, not, ◌&&◌, ◌||◌, List, eqb, leb}
+use Rattle.reasons.specs.Numbers.{number}
+use Rattle.reasons.specs.declared.Reason.TheVariants.{NotCorrect, NotNonComplete, NotUniform}
 use Rattle.finite.specs.Tests.{pick, tried, total}
 use Rattle.finite.specs.Maps.{met_before}
 use Rattle.records.specs.Design.{Stage, Design, stage_of}
@@ -43,7 +45,7 @@ both_passes d n = total n (λ t. correctness_at d t + uniformity_at d t)
 unfoldable pub trials_of : Design → Verdict → ℕ
 trials_of d v =
     pick (leb 1 v.reason && leb v.reason 11) 0
-    (pick (eqb v.reason 12 || eqb v.reason 13) (both_passes d (v.place - 1) + correctness_at d (v.place - 1))
+    (pick (eqb v.reason (number NotCorrect) || eqb v.reason (number NotNonComplete)) (both_passes d (v.place - 1) + correctness_at d (v.place - 1))
     (both_passes d v.place))
 
 -- The same by outcome, N being 2^(m × s): with 12 at stage i, 2(i - 1)N and the tries of correctness; with 13, (2(i - 1) + 1)N; with 14, as many and the
@@ -52,9 +54,9 @@ abbrev pub trials_by_outcome : Design → Verdict → ℕ
 trials_by_outcome d v =
     let sharings = 2 ^ (d.m * d.s) in
     let t = v.place - 1 in
-    pick (eqb v.reason 12) (2 * t * sharings + correctness_at d t)
-    (pick (eqb v.reason 13) ((2 * t + 1) * sharings)
-    (pick (eqb v.reason 14) ((2 * t + 1) * sharings + uniformity_at d t)
+    pick (eqb v.reason (number NotCorrect)) (2 * t * sharings + correctness_at d t)
+    (pick (eqb v.reason (number NotNonComplete)) ((2 * t + 1) * sharings)
+    (pick (eqb v.reason (number NotUniform)) ((2 * t + 1) * sharings + uniformity_at d t)
     (pick (eqb v.reason 0) (2 * v.place * sharings) 0)))
 
 -- of the verdict on a file, with a workspace of n bytes

@@ -1,5 +1,7 @@
 -- "Verdict": on a file and a workspace three numbers, the first fault in the published order; and the workspace afterwards.
 use Rattle.std.specs.Prelude.{ℕ, suc, ◌+◌, ◌*◌, ◌/◌, ◌^◌, Bool, not, ◌&&◌, List, [], ◌∷◌, ◌++◌, length, drop, replicate, eqb, ltb, leb}
+use Rattle.reasons.specs.Numbers.{number}
+use Rattle.reasons.specs.declared.Reason.TheVariants.{BoxRepeats, WorkspaceTooSmall, ChainIsNotBox, NotCorrect, NotNonComplete, NotUniform}
 use Rattle.finite.specs.Tests.{pick, all, first}
 use Rattle.finite.specs.Maps.{repeats}
 use Rattle.finite.specs.Faults.{first_fault}
@@ -34,11 +36,11 @@ module _ (d : Design) where
   abbrev pub stage_faults : ℕ → Stage → List (Bool × Verdict)
   stage_faults i g =
       -- not correct
-      (not (correct d.m d.s g), answer 12 i 0) ∷
+      (not (correct d.m d.s g), answer (number NotCorrect) i 0) ∷
       -- not non-complete, with the lowest component that depends on every share
-      (not (non_complete d.m d.s g), answer 13 i (first d.s (depends_on_all d.m d.s g) + 1)) ∷
+      (not (non_complete d.m d.s g), answer (number NotNonComplete) i (first d.s (depends_on_all d.m d.s g) + 1)) ∷
       -- not uniform
-      (not (uniform d.m d.s g), answer 14 i 0) ∷
+      (not (uniform d.m d.s g), answer (number NotUniform) i 0) ∷
       []
 
   -- stage by stage, from number i on
@@ -50,11 +52,11 @@ module _ (d : Design) where
   abbrev pub faults : ℕ → List (Bool × Verdict)
   faults n =
       -- S repeats an entry
-      (repeats (2 ^ d.m) (entry d.box), answer 8 0 0) ∷
+      (repeats (2 ^ d.m) (entry d.box), answer (number BoxRepeats) 0 0) ∷
       -- the workspace is too small
-      (ltb n (workspace_for d.m d.s), answer 9 0 0) ∷
+      (ltb n (workspace_for d.m d.s), answer (number WorkspaceTooSmall) 0 0) ∷
       -- the chain of tables is not S
-      (not (chain_is_box d), answer 10 0 0) ∷
+      (not (chain_is_box d), answer (number ChainIsNotBox) 0 0) ∷
       stages_faults 1 d.stages
 
 -- the verdict on a design, with a workspace of n bytes

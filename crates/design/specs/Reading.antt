@@ -1,5 +1,9 @@
 -- "Reading": the first fault of a file with its place, or the design that it means.
 use Rattle.std.specs.Prelude.{ℕ, zero, suc, ◌+◌, ◌*◌, ◌-◌, ◌/◌, ◌%◌, ◌^◌, List, [], ◌∷◌, ◌++◌, Bool, ◌&&◌, ◌||◌, not, length, take, drop, ltb, leb, eqb}
+use Rattle.reasons.specs.Numbers.{number}
+use Rattle.reasons.specs.declared.Reason.TheVariants.{CutShort, WrongKind, WrongLength, EntryTooLarge, BadTerm, BytesFollow}
+use Rattle.records.specs.Kinds.{code}
+use Rattle.records.specs.declared.kind.Kind.TheVariants as kinds
 use Rattle.finite.specs.Tests.{pick, all, tabulate}
 use Rattle.finite.specs.Faults.{first_fault}
 use Rattle.anf.specs.Terms.{before}
@@ -29,18 +33,18 @@ number_of h t l = 2 + t * (1 + h.m * h.s) + l
 -- the kind due at record i
 unfoldable pub kind_due : Head → ℕ → ℕ
 kind_due h i =
-    pick (eqb i 0) 1
-    (pick (eqb i 1) 2
-    (pick (eqb i (last_of h)) 4
-    (pick (eqb ((i - 2) % (1 + h.m * h.s)) 0) 2 3)))
+    pick (eqb i 0) (code kinds.Head)
+    (pick (eqb i 1) (code kinds.Table)
+    (pick (eqb i (last_of h)) (code kinds.End)
+    (pick (eqb ((i - 2) % (1 + h.m * h.s)) 0) (code kinds.Table) (code kinds.List))))
 
 -- the length due of a kind; of kind 3 the greatest
 unfoldable pub size_due : Head → ℕ → ℕ
-size_due h kind = pick (eqb kind 1) 3 (pick (eqb kind 2) (2 ^ h.m) (pick (eqb kind 3) (4 * greatest_terms) 0))
+size_due h kind = pick (eqb kind (code kinds.Head)) 3 (pick (eqb kind (code kinds.Table)) (2 ^ h.m) (pick (eqb kind (code kinds.List)) (4 * greatest_terms) 0))
 
 -- whether a record of this kind may have the length n: of kind 3 a multiple of 4 up to size, else size itself
 unfoldable pub length_due : ℕ → ℕ → ℕ → Bool
-length_due kind size n = pick (eqb kind 3) (eqb (n % 4) 0 && leb n size) (eqb n size)
+length_due kind size n = pick (eqb kind (code kinds.List)) (eqb (n % 4) 0 && leb n size) (eqb n size)
 
 -- ---- The faults of one record: tests in the published order, each with the number that it gives.
 
@@ -48,13 +52,13 @@ length_due kind size n = pick (eqb kind 3) (eqb (n % 4) 0 && leb n size) (eqb n 
 abbrev pub frame_faults : List ℕ → ℕ → ℕ → ℕ → List (Bool × ℕ)
 frame_faults f at kind size =
     -- the four-byte head is cut short
-    (ltb (length f - at) 4, 1) ∷
+    (ltb (length f - at) 4, number CutShort) ∷
     -- the kind is not the one due
-    (not (eqb (u16_at f (at + 2)) kind), 2) ∷
+    (not (eqb (u16_at f (at + 2)) kind), number WrongKind) ∷
     -- the length is not the one due
-    (not (length_due kind size (u16_at f at)), 3) ∷
+    (not (length_due kind size (u16_at f at)), number WrongLength) ∷
     -- the body is cut short
-    (ltb (length f - at - 4) (u16_at f at), 1) ∷
+    (ltb (length f - at - 4) (u16_at f at), number CutShort) ∷
     []
 
 -- a table's entry x is below bound
@@ -79,11 +83,11 @@ only_of one kind fault = (eqb kind one && fault.0, fault.1)
 abbrev pub body_faults : List ℕ → Head → ℕ → ℕ → ℕ → List (Bool × ℕ)
 body_faults f h kind start n =
     -- a head number breaks a limit: the number of the head's answer
-    only_of 1 kind (broken h.m h.s h.k, (head_answer (checked h.m h.s h.k)).0) ∷
+    only_of (code kinds.Head) kind (broken h.m h.s h.k, (head_answer (checked h.m h.s h.k)).0) ∷
     -- a table entry is 2^m or more
-    only_of 2 kind (not (all n (entry_fits f start (2 ^ h.m))), 5) ∷
+    only_of (code kinds.Table) kind (not (all n (entry_fits f start (2 ^ h.m))), number EntryTooLarge) ∷
     -- a term names a variable beyond m × s or does not rise
-    only_of 3 kind (not (all (n / 4) (term_fits f start (2 ^ (h.m * h.s)))), 6) ∷
+    only_of (code kinds.List) kind (not (all (n / 4) (term_fits f start (2 ^ (h.m * h.s)))), number BadTerm) ∷
     []
 
 -- the first fault of record i, which starts at `at`, or 0
@@ -127,7 +131,7 @@ meaning f = record {
 
 -- `left` records from number i on, which starts at `at`; then bytes that follow the end
 unfoldable pub walk : List ℕ → Head → ℕ → ℕ → ℕ → Reading
-walk f h zero i at = pick (ltb at (length f)) (refused 7 at) (means (meaning f))
+walk f h zero i at = pick (ltb at (length f)) (refused (number BytesFollow) at) (means (meaning f))
 walk f h (suc left) i at =
     let onward = walk f h left (suc i) (at + 4 + u16_at f at) in
     pick (eqb (fault_at f h i at) 0) onward (refused (fault_at f h i at) at)

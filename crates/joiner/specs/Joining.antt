@@ -1,5 +1,7 @@
 -- "Chaining two boxes": two designs joined into one; the answer of joining their files, and the output afterwards.
 use Rattle.std.specs.Prelude.{ℕ, ◌+◌, ◌≤◌, ◌<◌, ◌≡◌, Bool, not, ◌&&◌, List, [], ◌∷◌, ◌++◌, map, eqb, ltb, length}
+use Rattle.reasons.specs.Numbers.{number}
+use Rattle.reasons.specs.declared.Reason.TheVariants.{OutputTooShort, SharesDiffer, TooManyStages}
 use Rattle.finite.specs.Faults.{first_fault}
 use Rattle.anf.specs.Tables.{entry}
 use Rattle.records.specs.Writing.{Produced, writing_answer, writing_after}
@@ -30,11 +32,11 @@ same_shares d e = eqb d.m e.m && eqb d.s e.s
 abbrev pub joined_faults : Design → Design → ℕ → List (Bool × ℕ)
 joined_faults d e room =
     -- the widths or the share counts differ
-    (not (same_shares d e), 19) ∷
+    (not (same_shares d e), number SharesDiffer) ∷
     -- the stages are too many
-    (ltb greatest_stages (d.k + e.k), 20) ∷
+    (ltb greatest_stages (d.k + e.k), number TooManyStages) ∷
     -- the file does not fit the lent output
-    (ltb room (length (encode (joined_design d e))), 17) ∷
+    (ltb room (length (encode (joined_design d e))), number OutputTooShort) ∷
     []
 
 -- the number of their refusal, or 0
@@ -72,7 +74,7 @@ pub record Joinable (f g : List ℕ) (d e : Design) : Type 0 where
 pub data JoiningExplained (f g : List ℕ) (room : ℕ) : ℕ → Type 0 where
   first_refused : (r p : ℕ) → reading f ≡ refused r p → JoiningExplained f g room r
   second_refused : (d : Design) (r p : ℕ) → reading f ≡ means d → reading g ≡ refused r p → JoiningExplained f g room r
-  shares_differ : (d e : Design) → reading f ≡ means d → reading g ≡ means e → ¬ ((d.m ≡ e.m) × (d.s ≡ e.s)) → JoiningExplained f g room 19
-  stages_exceed : (d e : Design) → reading f ≡ means d → reading g ≡ means e → d.m ≡ e.m → d.s ≡ e.s → greatest_stages < d.k + e.k → JoiningExplained f g room 20
-  output_short : (d e : Design) → Joinable f g d e → room < length (joined f g) → JoiningExplained f g room 17
+  shares_differ : (d e : Design) → reading f ≡ means d → reading g ≡ means e → ¬ ((d.m ≡ e.m) × (d.s ≡ e.s)) → JoiningExplained f g room (number SharesDiffer)
+  stages_exceed : (d e : Design) → reading f ≡ means d → reading g ≡ means e → d.m ≡ e.m → d.s ≡ e.s → greatest_stages < d.k + e.k → JoiningExplained f g room (number TooManyStages)
+  output_short : (d e : Design) → Joinable f g d e → room < length (joined f g) → JoiningExplained f g room (number OutputTooShort)
   joins : (d e : Design) → Joinable f g d e → length (joined f g) ≤ room → JoiningExplained f g room 0

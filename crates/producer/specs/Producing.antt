@@ -1,6 +1,8 @@
 -- "Producing": the answer, and the output afterwards.
 use Rattle.std.specs.Prelude.{ℕ, ◌+◌, ◌*◌, ◌^◌, ◌≤◌, ◌<◌, Bool, not, List, [], ◌∷◌, length, eqb, ltb, leb}
 use Rattle.std.specs.Int.Count.{ones}
+use Rattle.reasons.specs.Numbers.{number}
+use Rattle.reasons.specs.declared.Reason.TheVariants.{WrongLength, EntryTooLarge, BoxRepeats, DegreeTooHigh, OutputTooShort, BadPlacement}
 use Rattle.finite.specs.Maps.{repeats}
 use Rattle.finite.specs.Tests.{pick, total}
 use Rattle.finite.specs.Faults.{first_fault}
@@ -21,17 +23,17 @@ produced_faults m s t l room =
     -- m or s breaks a limit: 4, the number of the head's answer
     (broken m s 1, (head_answer (checked m s 1)).0) ∷
     -- the table has not 2^m bytes
-    (not (eqb (length t) (2 ^ m)), 3) ∷
+    (not (eqb (length t) (2 ^ m)), number WrongLength) ∷
     -- an entry is 2^m or more
-    (not (entries_below t (2 ^ m)), 5) ∷
+    (not (entries_below t (2 ^ m)), number EntryTooLarge) ∷
     -- one repeats
-    (repeats (2 ^ m) (entry t), 8) ∷
+    (repeats (2 ^ m) (entry t), number BoxRepeats) ∷
     -- the placement does not load
-    (not (loads s l), 21) ∷
+    (not (loads s l), number BadPlacement) ∷
     -- the degree is s or more
-    (leb s (degree m (entry t)), 16) ∷
+    (leb s (degree m (entry t)), number DegreeTooHigh) ∷
     -- the file does not fit the lent output
-    (ltb room (length (produced m s t l)), 17) ∷
+    (ltb room (length (produced m s t l)), number OutputTooShort) ∷
     []
 
 -- the number of the refusal, or 0

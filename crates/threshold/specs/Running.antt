@@ -1,5 +1,7 @@
 -- Running a chain on five shares, the greatest number of them: bytes that travel together, unused ones zero (the paper's "Running a chain").
 use Rattle.std.specs.Prelude.{ℕ, ◌^◌, Bool, List, eqb, ltb, get_or, replicate}
+use Rattle.reasons.specs.Numbers.{number}
+use Rattle.reasons.specs.declared.Reason.TheVariants.{BadShare}
 use Rattle.finite.specs.Tests.{pick, all, tabulate}
 use Rattle.finite.specs.Sums.{xor_below}
 use Rattle.design.specs.Limits.{greatest_shares}
@@ -53,7 +55,7 @@ finished_run d l = record { reason = 0; shares = output_shares d l }
 -- first the refusals of reading, then 15
 unfoldable pub running_on : Reading → List ℕ → Ran
 running_on (refused r place) l = refused_run r
-running_on (means d) l = pick (shares_fit d.m d.s l) (finished_run d l) (refused_run 15)
+running_on (means d) l = pick (shares_fit d.m d.s l) (finished_run d l) (refused_run (number BadShare))
 
 -- the answer of running the chain of a file on five shares
 unfoldable pub running : List ℕ → List ℕ → Ran

@@ -1,5 +1,7 @@
 -- What the functions below `judge` answer: parts of the verdict on a design, and what the passes over sharings find.
 use Rattle.std.specs.Prelude.{ℕ, ◌+◌, ◌*◌, ◌^◌, ◌<◌, Bool, ◌||◌, Option, Some, None, List, [], get_or, eqb}
+use Rattle.reasons.specs.Numbers.{number}
+use Rattle.reasons.specs.declared.Reason.TheVariants.{NotCorrect, NotNonComplete}
 use Rattle.finite.specs.Tests.{pick, any, first}
 use Rattle.finite.specs.Faults.{first_fault}
 use Rattle.anf.specs.Terms.{names}
@@ -60,7 +62,7 @@ lists_name n w ls j group = any n (λ b. names group (get_or ls (w * j + b) []))
 
 -- the trials of stage t alone, by what it answers: with 12 and 13 uniformity is not tried
 abbrev pub stage_tries : Design → ℕ → ℕ → ℕ
-stage_tries d t reason = correctness_at d t + pick (eqb reason 12 || eqb reason 13) 0 (uniformity_at d t)
+stage_tries d t reason = correctness_at d t + pick (eqb reason (number NotCorrect) || eqb reason (number NotNonComplete)) 0 (uniformity_at d t)
 
 -- what it answers alone, with its trials
 abbrev pub stage_judging : Design → ℕ → Judged
