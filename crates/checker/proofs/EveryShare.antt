@@ -53,9 +53,6 @@ module _ (m s k : ℕ) (limits : broken m s k ≡ false) where
       pub place_fits : m * j + b < 2 ^ 64
       place_fits = omega (arith, place_lt m s j b hj c, (bounds m s k limits).bits)
 
-  pub width_within : m ≤ greatest_width
-  width_within = (bounds m s k limits).m_high
-
 -- ---- `offending`: component j depends on every share exactly where its terms name a variable of every share
 
 -- the set has the variables that the first b lists of component j name, and none of some share

@@ -27,7 +27,7 @@ use Rattle.sharing.proofs.Tests.{correct↔, ignores_some↔, non_complete↔, n
 use Rattle.checker.specs.Verdict.{Verdict, answer, workspace_for, chain_is_box, judged, judged_reading, verdict}
 use Rattle.checker.specs.Accepted.{CorrectAt, SoundAt, SoundBefore, Sound, HasRoom, Accepted, ExplainedDesign, Explained}
 use Rattle.checker.specs.Accepted.{fault_8, fault_9, fault_10, fault_12, fault_13, fault_14, accepted, refusal, of_design}
-use Rattle.checker.proofs.Steps.{stage_then, stages_from, stages_next, stages_end}
+use Rattle.checker.proofs.StageVerdicts.{stage_then, stages_from, stages_next, stages_end}
 use Rattle.checker.proofs.Chaining.{chain↔}
 
 -- ---- explained

@@ -13,7 +13,7 @@ use Rattle.reasons.proofs.Numbers.{number_some}
 use Rattle.design.specs.Limits.{broken}
 use Rattle.design.specs.Layout.{HeadRead, refused_head, head_read}
 use Rattle.design.proofs.Limits.{bounds}
-use Rattle.design.proofs.Answering.{head_reason, head_read_lem}
+use Rattle.design.proofs.Reading.{head_reason, head_read_lem}
 use Rattle.checker.specs.Verdict.{workspace_for}
 use Rattle.checker.specs.Trials.{most_trials, forecast_for, no_forecast, forecast}
 use Rattle.checker.proofs.Passes.{few_trials}

@@ -18,7 +18,7 @@ use Rattle.finite.proofs.Faults.{fault_here, fault_past}
 use Rattle.finite.proofs.Maps.{repeats→injective}
 use Rattle.anf.specs.Tables.{entry}
 use Rattle.design.specs.Reading.{Reading, refused, means, reading, meaning}
-use Rattle.design.proofs.Written.{read_means}
+use Rattle.design.proofs.Meaning.{read_means}
 use Rattle.design.proofs.Reasons.{reason_range}
 use Rattle.checker.specs.Verdict.{Verdict, answer, workspace_for, chain_is_box, judged, judged_reading, verdict, zeroed, workspace_left, workspace_after}
 use Rattle.checker.specs.Trials.{Judged, counted, trials_of, trials, judging}

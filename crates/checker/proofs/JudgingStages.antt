@@ -27,7 +27,17 @@ use Rattle.reasons.proofs.Numbers.{number_some}
 use mathlib.Core.Logic.{◌≢◌}
 use Rattle.checker.proofs.Passes.{found_is, below, none_found, tries_found, correctness_stopped, uniformity_stopped, correctness_most, uniformity_most}
 use Rattle.checker.proofs.Passes.{few_sharings, few_trials, both_none, both_more, both_most, tries_most, at_fault}
-use Rattle.checker.proofs.Steps.{stage_then, stages_from, stages_next, stages_end, stages_all, stage_fault, stage_fine}
+use Rattle.checker.proofs.StageVerdicts.{stage_then, stages_from, stages_next, stages_end, stages_all, stage_fault, stage_fine}
+
+-- a refusal's number is not 0
+refusal_some : (r : Refusal) → (refused_with r).reason ≢ 0
+refusal_some (Unreadable error) = number_some (fault_reason error.fault)
+refusal_some BoxRepeats = λ z. omega arith
+refusal_some WorkspaceTooSmall = λ z. omega arith
+refusal_some ChainIsNotBox = λ z. omega arith
+refusal_some (NotCorrect stage) = λ z. omega arith
+refusal_some (NotNonComplete stage component) = λ z. omega arith
+refusal_some (NotUniform stage) = λ z. omega arith
 
 -- a refusal's number is not 0
 refusal_some : (r : Refusal) → (refused_with r).reason ≢ 0

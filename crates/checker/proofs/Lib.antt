@@ -4,9 +4,9 @@ pub mod Passes
 pub mod Ranges
 pub mod Marking
 pub mod Chaining
-pub mod Agreeing
+pub mod Correctness
 pub mod EveryShare
-pub mod Steps
+pub mod StageVerdicts
 pub mod JudgingStages
 pub mod JudgingDesign
 pub mod Forecasting

@@ -18,7 +18,7 @@ use Rattle.design.specs.Reading.{Reading, refused, means, head_of, head_fault, m
 use Rattle.design.specs.Limits.{Head}
 use Rattle.design.proofs.HeadAlone.{head_seven, fault_seven, head_range, refused_first, reads_head}
 use Rattle.design.proofs.Walking.{head_refused}
-use Rattle.design.proofs.Written.{read_means}
+use Rattle.design.proofs.Meaning.{read_means}
 use Rattle.design.proofs.Theorems.{read_formed}
 use Rattle.design.proofs.Reasons.{reason_range}
 use Rattle.sharing.proofs.Tests.{correct↔, uniform↔}

@@ -59,7 +59,9 @@ pub struct Needs {
 // Stage `t`, counted from 0: 12, 13 or 14. The marks are zero before and after. From here up the workspace is lent beside the design: a struct of both is no
 // plainer, as each contract says of it by itself what it is afterwards.
 fn judge_stage(design: &DesignFile<'_>, t: usize, workspace: &mut [u8]) -> StageJudgement
-    requires { (t < design.now.head.k) × Cleared (design_of design.now) workspace.old × TablesPermute (design_of design.now) }
+    requires stage { t < design.now.head.k }
+    requires cleared { Cleared (design_of design.now) workspace.old }
+    requires permutations { TablesPermute (design_of design.now) }
     ensures value { stage_judged_of result ≡ stage_judging (design_of design.now) t }
     ensures workspace_unchanged { workspace.new ≡ workspace.old }
 {
@@ -96,7 +98,8 @@ fn judge_stage(design: &DesignFile<'_>, t: usize, workspace: &mut [u8]) -> Stage
 
 // The stages, each judged, up to the first with a fault. Here alone trials add up.
 fn judge_stages(design: &DesignFile<'_>, workspace: &mut [u8]) -> Judgement
-    requires { Cleared (design_of design.now) workspace.old × TablesPermute (design_of design.now) }
+    requires cleared { Cleared (design_of design.now) workspace.old }
+    requires permutations { TablesPermute (design_of design.now) }
     ensures value { judged_of result ≡ with_trials (design_of design.now) (stages_judged (design_of design.now)) }
     ensures workspace_unchanged { workspace.new ≡ workspace.old }
 {
@@ -120,8 +123,10 @@ fn judge_stages(design: &DesignFile<'_>, workspace: &mut [u8]) -> Judgement
 
 // The design of a file that reads: 8 and above.
 fn judge_design(design: &DesignFile<'_>, workspace: &mut [u8]) -> Judgement
-    ensures value { judged_of result ≡ with_trials (design_of design.now) (judged (design_of design.now) (length workspace.old)) }
-    ensures workspace_after { workspace.new ≡ workspace_left (design_of design.now) (judged (design_of design.now) (length workspace.old)).reason workspace.old }
+    ensures value { let d = design_of design.now in
+        judged_of result ≡ with_trials d (judged d (length workspace.old)) }
+    ensures workspace_after { let d = design_of design.now in
+        workspace.new ≡ workspace_left d (judged d (length workspace.old)).reason workspace.old }
 {
     if anf::repeats(design.box_table()) {
         return Judgement::untried(Refusal::BoxRepeats);

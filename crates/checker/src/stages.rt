@@ -100,9 +100,13 @@ pub fn offending(design: &DesignFile<'_>, t: usize) -> Option<usize>
 // function for both, with the test as a closure, is no plainer, as its contract has to say which marks the closure leaves in what it borrows.
 #[inline(never)]
 fn first_met_in(lists: &Lists<'_>, workspace: &mut [u8]) -> Option<u32>
-    requires { (3 ≤ length (lists_held lists.now)) × (2 ^ length (lists_held lists.now) / 8 ≤ length workspace.old) × Clear (2 ^ length (lists_held lists.now)) workspace.old }
-    ensures value { result ≡ found (2 ^ length (lists_held lists.now)) (met_before (output (lists_held lists.now))) }
-    ensures workspace_unchanged { drop (2 ^ length (lists_held lists.now) / 8) workspace.new ≡ drop (2 ^ length (lists_held lists.now) / 8) workspace.old }
+    requires whole_bytes { 3 ≤ length (lists_held lists.now) }
+    requires room { 2 ^ length (lists_held lists.now) / 8 ≤ length workspace.old }
+    requires clear { Clear (2 ^ length (lists_held lists.now)) workspace.old }
+    ensures value { let ls = lists_held lists.now in
+        result ≡ found (2 ^ length ls) (met_before (output ls)) }
+    ensures rest { let n = 2 ^ length (lists_held lists.now) / 8 in
+        drop n workspace.new ≡ drop n workspace.old }
 {
     let n = two_to(lists.len());
     for (x, y) in (0..n).zip(Outputs::new(*lists)) {
@@ -115,7 +119,8 @@ fn first_met_in(lists: &Lists<'_>, workspace: &mut [u8]) -> Option<u32>
 
 // The first sharing of stage `t` whose output sharing was met before. The marks are zero before and after.
 pub fn first_met(design: &DesignFile<'_>, t: usize, workspace: &mut [u8]) -> Option<u32>
-    requires { (t < design.now.head.k) × Cleared (design_of design.now) workspace.old }
+    requires stage { t < design.now.head.k }
+    requires cleared { Cleared (design_of design.now) workspace.old }
     ensures value { result ≡ first_met (design_of design.now) t }
     ensures workspace_unchanged { workspace.new ≡ workspace.old }
 {

@@ -21,9 +21,9 @@ use Rattle.design.proofs.Flat.{head_for, stage_body, body_of, record_of, flat}
 use Rattle.design.proofs.Records.{body_fault, body_1, body_2, body_3, body_4, fault_body, entry_fits_lem, term_fits_lem}
 use Rattle.design.proofs.Walking.{place_next}
 use Rattle.records.proofs.TermBytes.{little_four, length_term_bytes}
-use Rattle.design.proofs.Found.{staged, record_cases, number_low}
+use Rattle.design.proofs.FileRecords.{staged, record_cases, number_low}
 use Rattle.records.proofs.Concat.{concat_snoc, concat_at}
-use Rattle.design.proofs.Written.{body_stage, body_end, kind_end, last_two}
+use Rattle.design.proofs.Meaning.{body_stage, body_end, kind_end, last_two}
 use native.Mathlib.Omega.{arith}
 use native.Mathlib.Numerals.{add-one}
 use native.Mathlib.Nat.{add-zero}

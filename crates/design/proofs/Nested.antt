@@ -16,9 +16,9 @@ use Rattle.records.specs.Records.{a_record}
 use Rattle.records.specs.Encode.{lists_bytes, stage_bytes, encode}
 use Rattle.design.specs.Reading.{last_of, number_of, kind_due}
 use Rattle.design.proofs.Flat.{head_for, stage_body, body_of, record_of, flat}
-use Rattle.design.proofs.Found.{staged}
+use Rattle.design.proofs.FileRecords.{staged}
 use Rattle.records.proofs.Concat.{concat_snoc, concat_add}
-use Rattle.design.proofs.Written.{body_stage, body_end, kind_end}
+use Rattle.design.proofs.Meaning.{body_stage, body_end, kind_end}
 
 concat_none : (g : ℕ → List ℕ) → concat (tabulate 0 g) ≡ []
 unfolding tabulate

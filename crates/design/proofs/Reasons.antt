@@ -25,7 +25,7 @@ use Rattle.design.specs.Refused.{WithinLimits, LengthFits, TermFits, RecordStand
 use Rattle.design.specs.Refused.{RefusedFor, head_cut, kind_wrong, length_wrong, body_cut, limit_broken, entry_high, term_wrong, bytes_follow}
 use Rattle.design.proofs.Limits.{bounds, unbroken}
 use Rattle.design.proofs.Records.{body_fault, Framed, body_1, body_2, body_3, body_none, fault_framed, previous_more, entry_below, entry_not, body_4}
-use Rattle.design.proofs.Written.{list_size}
+use Rattle.design.proofs.Meaning.{list_size}
 use Rattle.design.proofs.Walking.{place_next}
 
 -- ---- the tests, as propositions

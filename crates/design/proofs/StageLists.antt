@@ -18,9 +18,9 @@ use Rattle.design.specs.Limits.{greatest_records, greatest_terms}
 use Rattle.design.proofs.Limits.{records}
 use Rattle.records.proofs.TermBytes.{terms_of_bytes, length_term_bytes}
 use Rattle.design.proofs.Walking.{place_next}
-use Rattle.design.proofs.Answered.{described}
-use Rattle.design.proofs.Found.{number_low}
-use Rattle.design.proofs.Written.{list_part}
+use Rattle.design.proofs.Layouts.{described}
+use Rattle.design.proofs.FileRecords.{number_low}
+use Rattle.design.proofs.Meaning.{list_part}
 
 module _ (f starts : List ℕ) (first n : ℕ) where
   pub lists_of_length : length (lists_of f starts first n) ≡ n

@@ -11,9 +11,9 @@ use Rattle.records.specs.Design.{Design, no_stage, stage_of}
 use Rattle.design.specs.WellFormed.{WellFormed, SameMeaning}
 use Rattle.records.specs.Encode.{encode}
 use Rattle.design.specs.Reading.{means, reading}
-use Rattle.design.proofs.Written.{read_means, read_flat}
+use Rattle.design.proofs.Meaning.{read_means, read_flat}
 use Rattle.design.proofs.Encoded.{flat_reads, stage_eq, design_eq}
-use Rattle.design.proofs.Formed.{formed}
+use Rattle.design.proofs.WellFormed.{formed}
 use Rattle.design.proofs.Nested.{flat_encode}
 
 module _ (f : List ℕ) (d : Design) where

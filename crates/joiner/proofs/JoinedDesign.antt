@@ -17,7 +17,7 @@ use Rattle.design.specs.WellFormed.{StageFits, WellFormed}
 use Rattle.records.specs.Encode.{encode}
 use Rattle.design.specs.Reading.{means, reading}
 use Rattle.design.proofs.Limits.{bounds, unbroken}
-use Rattle.design.proofs.Written.{read_means}
+use Rattle.design.proofs.Meaning.{read_means}
 use Rattle.design.proofs.Theorems.{read_formed, encode_reads}
 use Rattle.joiner.specs.Joining.{joined_design, joined, Joinable}
 

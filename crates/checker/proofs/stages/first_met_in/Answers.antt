@@ -19,8 +19,8 @@ returns-then-mark_one-clause-value c =
     let w = outputs_turn (lists_held c.args.lists.now) road c.loop-x.yielded c.loop-x.x-iterator c.loop-x.yielded_by _ c.next.new.self c.next.ensures.steps _ _ c.in-Some.is in
     search (marked_found, w)
 
-pub returns-then-mark_one-clause-workspace_unchanged : goal.returns-then-mark_one-clause-workspace_unchanged
-returns-then-mark_one-clause-workspace_unchanged c =
+pub returns-then-mark_one-clause-rest : goal.returns-then-mark_one-clause-rest
+returns-then-mark_one-clause-rest c =
     let road = outputs_zipped c.two_to-n.result (lists_held c.args.lists.now) c.into_iter-x-iterator.result (search rules) (search rules) (search rules) in
     let w = outputs_turn (lists_held c.args.lists.now) road c.loop-x.yielded c.loop-x.x-iterator c.loop-x.yielded_by _ c.next.new.self c.next.ensures.steps _ _ c.in-Some.is in
     search (marked_rest, w)

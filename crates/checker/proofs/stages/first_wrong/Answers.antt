@@ -1,6 +1,6 @@
 use Rattle.std.proofs.Common.{rules}
 use Rattle.design.specs.Inside.Lists.{lists_held}
-use Rattle.checker.proofs.Agreeing.{sums_start, sums_wrong_lem, sums_more, sums_end}
+use Rattle.checker.proofs.Correctness.{sums_start, sums_wrong_lem, sums_more, sums_end}
 use Rattle.checker.proofs.Ranges.{length-last, all_sharings, outputs_zipped, outputs_turn, outputs_end}
 use Rattle.checker.proofs.stages.first_wrong.Goals as goal
 

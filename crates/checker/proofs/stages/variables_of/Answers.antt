@@ -1,9 +1,10 @@
 -- `variables_of` meets its contract: the shift loses no bit.
-use Rattle.checker.proofs.EveryShare.{place_below_32, place_fits_32, place_fits_64, variables_shifted, width_within}
+use Rattle.checker.proofs.EveryShare.{place_below_32, place_fits_32, place_fits_64, variables_shifted}
+use Rattle.design.proofs.Heading.{width_high}
 use Rattle.checker.proofs.stages.variables_of.Goals as goal
 
 pub share_mask-requires : goal.share_mask-requires
-share_mask-requires c = search width_within
+share_mask-requires c = search width_high
 
 pub overflow_mul-result : goal.overflow_mul-result
 overflow_mul-result c = search place_fits_64

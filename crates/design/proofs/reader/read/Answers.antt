@@ -1,6 +1,6 @@
 -- `design::read` meets its contract: the head record by `read_head`, the others by `walk`.
-use Rattle.design.proofs.Answered.{refused_as}
-use Rattle.design.proofs.Answering.{head_found, head_sound, read_refused}
+use Rattle.design.proofs.Layouts.{refused_as}
+use Rattle.design.proofs.Reading.{head_found, head_sound, read_refused}
 use Rattle.design.proofs.reader.read.Goals as goal
 
 pub walk-requires : goal.walk-requires

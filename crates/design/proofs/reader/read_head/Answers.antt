@@ -1,7 +1,7 @@
 -- `design::read_head` meets its contract: the frame's fault first, then the constructor's answer for the three bytes.
 use Rattle.std.proofs.Common.{lit<}
 use Rattle.std.proofs.lemmas.Result.{err_from_is_err_and}
-use Rattle.design.proofs.Answering.{head_cut, head_there, head_answered}
+use Rattle.design.proofs.Reading.{head_cut, head_there, head_answered}
 use Rattle.design.proofs.reader.read_head.Goals as goal
 
 pub returns-in_err-body : goal.returns-in_err-body

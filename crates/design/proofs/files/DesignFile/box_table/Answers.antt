@@ -1,5 +1,5 @@
 -- `design::DesignFile::box_table` meets its contract: the box is a part of the file.
-use Rattle.design.proofs.Taking.{box_fits, box_there, box_is, slice_length}
+use Rattle.design.proofs.FileParts.{box_fits, box_there, box_is, slice_length}
 use Rattle.design.proofs.files.DesignFile.box_table.Goals as goal
 
 pub overflow_add-result : goal.overflow_add-result

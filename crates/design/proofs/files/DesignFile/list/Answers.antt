@@ -1,7 +1,7 @@
 -- `design::DesignFile::list` meets its contract: the bytes of a list are a part of the file.
 use Rattle.std.proofs.Common.{arith, lit≤}
-use Rattle.design.proofs.Found.{limits}
-use Rattle.design.proofs.Taking.{list_fits, head_before, length_there, list_end_fits, list_there, list_is}
+use Rattle.design.proofs.FileRecords.{limits}
+use Rattle.design.proofs.FileParts.{list_fits, head_before, length_there, list_end_fits, list_there, list_is}
 use Rattle.design.proofs.files.DesignFile.list.Goals as goal
 
 pub overflow_add-l : goal.overflow_add-l

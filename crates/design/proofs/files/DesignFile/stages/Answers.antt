@@ -1,5 +1,5 @@
 -- `design::DesignFile::stages` meets its contract: what stands between the records of the head and the box and that of the end.
-use Rattle.design.proofs.Taking.{entries_small, front_fits, end_within, front_within, stages_are}
+use Rattle.design.proofs.FileParts.{entries_small, front_fits, end_within, front_within, stages_are}
 use Rattle.design.proofs.files.DesignFile.stages.Goals as goal
 
 pub record_size-requires-2 : goal.record_size-requires-2

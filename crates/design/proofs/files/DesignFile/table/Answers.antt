@@ -1,7 +1,7 @@
 -- `design::DesignFile::table` meets its contract: a stage's table is a part of the file.
 use Rattle.std.proofs.Common.{arith}
-use Rattle.design.proofs.Found.{limits}
-use Rattle.design.proofs.Taking.{table_fits, table_there, table_is, slice_length}
+use Rattle.design.proofs.FileRecords.{limits}
+use Rattle.design.proofs.FileParts.{table_fits, table_there, table_is, slice_length}
 use Rattle.design.proofs.files.DesignFile.table.Goals as goal
 
 pub number-requires : goal.number-requires

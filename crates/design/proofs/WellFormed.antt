@@ -18,8 +18,8 @@ use Rattle.anf.specs.Tables.{TableFits}
 use Rattle.design.specs.WellFormed.{ListFits, StageFits, WellFormed}
 use Rattle.design.specs.Reading.{number_of, kind_due, size_due, length_due, entry_fits, previous, term_fits, fault_at, means, reading, place, head_of, meaning, stage_at, table_at, list_at}
 use Rattle.design.proofs.Records.{entry_below, body_2, body_3, previous_more, fault_framed, body_none}
-use Rattle.design.proofs.Found.{fine, limits_file, stage_is, staged, number_low}
-use Rattle.design.proofs.Written.{list_size, last_two}
+use Rattle.design.proofs.FileRecords.{fine, limits_file, stage_is, staged, number_low}
+use Rattle.design.proofs.Meaning.{list_size, last_two}
 
 term_rises : (f : List ℕ) (start bound j : ℕ) → term_fits f start bound j ≡ true → (eqb j 0 || before (previous f start j) (u32_at f (start + 4 * j))) ≡ true
 unfolding term_fits

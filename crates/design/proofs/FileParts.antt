@@ -22,9 +22,9 @@ use Rattle.design.specs.Reading.{number_of, meaning}
 use Rattle.design.specs.Layout.{Layout}
 use Rattle.records.specs.Inside.Terms.{terms}
 use Rattle.records.proofs.TermBytes.{terms_of_bytes}
-use Rattle.design.proofs.Found.{Part, limited, box_part, table_part}
-use Rattle.design.proofs.Written.{list_part}
-use Rattle.design.proofs.Answered.{described}
+use Rattle.design.proofs.FileRecords.{Part, limited, box_part, table_part}
+use Rattle.design.proofs.Meaning.{list_part}
+use Rattle.design.proofs.Layouts.{described}
 use Rattle.design.proofs.FileLength.{parts_length}
 use Rattle.design.proofs.Theorems.{read_encodes}
 

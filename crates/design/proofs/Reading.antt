@@ -35,7 +35,7 @@ use Rattle.design.specs.declared.errors.Fault.{Fault}
 use Rattle.design.specs.declared.errors.Fault.TheVariants as faults
 use Rattle.std.specs.Result.{result_or}
 use Rattle.reasons.specs.declared.Reason.TheVariants.{LimitBroken}
-use Rattle.design.proofs.Answered.{answers_described}
+use Rattle.design.proofs.Layouts.{answers_described}
 use Rattle.design.proofs.Records.{fault_framed}
 use Rattle.design.proofs.Walking.{walk_next, walk_stop, walk_over, walk_done, place_next, head_size, head_frame, head_body, head_refused, head_next}
 

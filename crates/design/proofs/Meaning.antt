@@ -24,7 +24,7 @@ use Rattle.design.specs.Layout.{Layout}
 use Rattle.design.proofs.Flat.{head_for, stage_body, body_of, record_of, flat}
 use Rattle.design.proofs.Records.{Framed, frame_none, fault_framed}
 use Rattle.design.proofs.Walking.{head_size}
-use Rattle.design.proofs.Found.{number_two, number_low, number_div, number_mod, record_cases, ends, fine, stage_is, list_is, table_framed, list_framed, Part}
+use Rattle.design.proofs.FileRecords.{number_two, number_low, number_div, number_mod, record_cases, ends, fine, stage_is, list_is, table_framed, list_framed, Part}
 use Rattle.records.proofs.Concat.{concat_snoc}
 
 -- record i of the file f as it stands

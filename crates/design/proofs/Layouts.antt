@@ -20,10 +20,10 @@ use Rattle.design.specs.Errors.{fault_reason}
 use Rattle.design.specs.declared.errors.Fault.{Fault}
 use Rattle.reasons.proofs.Numbers.{number_some}
 use Rattle.design.proofs.Limits.{Bounds}
-use Rattle.design.proofs.Found.{limited}
-use Rattle.design.proofs.Formed.{formed}
+use Rattle.design.proofs.FileRecords.{limited}
+use Rattle.design.proofs.WellFormed.{formed}
 use Rattle.design.proofs.Reasons.{reason_range}
-use Rattle.design.proofs.Written.{read_means}
+use Rattle.design.proofs.Meaning.{read_means}
 
 -- the layout l describes the file f: the design that it reads as, by the numbers of its head
 pub record Readable (f : List ℕ) (l : Layout) : Type 0 where
