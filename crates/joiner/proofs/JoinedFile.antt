@@ -3,13 +3,12 @@
 -- Assumes nothing.
 use mathlib.Core.Bool.{false}
 use mathlib.Core.Path.{◌≡◌, refl, sym, ap, ap₂, ◌∙◌, subst}
-use mathlib.Core.List.{List, [], ◌∷◌, ◌++◌, map, map-append, append_assoc}
+use mathlib.Core.List.{List, ◌++◌, map, append_assoc}
 use Prim.Native.Nat.{ℕ, ◌+◌, ◌^◌, ◌≤◌, ◌<◌}
-use native.Mathlib.Numerals.{add-one}
 use native.Mathlib.Omega.{arith}
-use lib.ListN.{length, get_or, set, take, length-append, length-map, length-set}
+use lib.ListN.{length, take, length-append, length-map}
 use lib.Pow.{pow_mono}
-use lib.Seq.{take-suc, take-suc-set, take_all}
+use lib.Seq.{take_all}
 use Rattle.anf.specs.Tables.{entry}
 use Rattle.records.specs.Records.{end_record}
 use Rattle.records.specs.Design.{Design}
@@ -40,25 +39,6 @@ module _ (t u : List ℕ) (h : Through t u) where
   none_sent b z = record { room = z; so_far = refl }
 
   module _ (b : List ℕ) (x : ℕ) (g : Sent t u b x) where
-    module _ (l : x < length t) (y : ℕ) (ey : y ≡ get_or t x 0) where
-      pub place_within : x < length b
-      place_within = omega (arith, g.room, h.size)
-
-      pub entry_within : y < length u
-      entry_within = rw ey (h.below x l)
-
-      pub sent_more : Sent t u (set b x (get_or u y 0)) (x + 1)
-      sent_more = record {
-        room = omega (arith, length_set);
-        so_far =
-            ap (λ (k : ℕ). take k (set b x (get_or u y 0))) (add-one x) ∙ take-suc-set b x (get_or u y 0) place_within
-            ∙ ap₂ (λ (c : List ℕ) (z : ℕ). c ++ (entry u z ∷ [])) g.so_far ey
-            ∙ sym (ap (λ (k : ℕ). map (entry u) (take k t)) (add-one x) ∙ ap (map (entry u)) (take-suc t x 0 l) ∙ map-append (entry u) (take x t) (get_or t x 0 ∷ []));
-      }
-        where
-          length_set : length (set b x (get_or u y 0)) ≡ length b
-          length_set = length-set b x (get_or u y 0)
-
     pub all_sent : x ≤ length t → length t ≤ x → take (length t) b ≡ map (entry u) t
     all_sent a z = let e : length t ≡ x = omega arith in rw e (g.so_far ∙ ap (map (entry u)) (take_all x t z))
 

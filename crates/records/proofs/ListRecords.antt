@@ -5,7 +5,7 @@ use Prim.Native.Nat.{ℕ, ◌+◌, ◌*◌, ◌≤◌, ◌<◌}
 use native.Mathlib.Numerals.{add-one}
 use native.Mathlib.Omega.{arith}
 use lib.ListN.{length, get_or, take, drop, length-take, length-append, take-append-drop}
-use lib.Seq.{take-suc, take-length}
+use lib.Seq.{take-suc}
 use Rattle.records.specs.Bytes.{four, term_bytes}
 use Rattle.records.specs.Records.{a_record, list_record}
 use Rattle.records.specs.Encode.{lists_bytes}
@@ -36,9 +36,6 @@ term_bytes_more l j h =
 pub taken_length : (l : List ℕ) (n : ℕ) → n ≤ length l → length (term_bytes (take n l)) ≡ 4 * n
 taken_length l n h = length_term_bytes (take n l) ∙ omega (arith, length-take n l)
 
-pub list_record_length : (ts : List ℕ) → length (list_record ts) ≡ 4 + 4 * length ts
-list_record_length ts = record_length 3 (term_bytes ts) ∙ omega (arith, length_term_bytes ts)
-
 -- ---- the records of lists, one behind the other
 
 records_append : (a b : List (List ℕ)) → lists_bytes (a ++ b) ≡ lists_bytes a ++ lists_bytes b
@@ -52,9 +49,6 @@ records_none ls = refl
 pub records_more : (ls : List (List ℕ)) (i : ℕ) → i < length ls → lists_bytes (take (i + 1) ls) ≡ lists_bytes (take i ls) ++ list_record (get_or ls i [])
 unfolding lists_bytes
 records_more ls i h = concat_more list_record ls i [] h
-
-pub records_all : (ls : List (List ℕ)) → lists_bytes (take (length ls) ls) ≡ lists_bytes ls
-records_all ls = ap lists_bytes (take-length ls)
 
 pub records_within : (ls : List (List ℕ)) (i : ℕ) → i < length ls → length (lists_bytes (take i ls)) + length (list_record (get_or ls i [])) ≤ length (lists_bytes ls)
 records_within ls i h =
