@@ -51,7 +51,7 @@ extern "C" {
 #define JESTRUNAS_CUT_SHORT 1            /* a record's head or its body is cut short */
 #define JESTRUNAS_WRONG_KIND 2           /* a record's kind is not the one due */
 #define JESTRUNAS_WRONG_LENGTH 3         /* a record's length is not the one due; produce, transform: that of the table or words */
-#define JESTRUNAS_LIMIT_BROKEN 4         /* a head number breaks a limit; produce, transform: m or s does */
+#define JESTRUNAS_LIMIT_BROKEN 4         /* a head number breaks a limit; produce: m, s or m * s does; transform: m does */
 #define JESTRUNAS_ENTRY_TOO_LARGE 5      /* a table entry is 2^m or more; produce, transform: an entry or a word is */
 #define JESTRUNAS_BAD_TERM 6             /* a term names a variable beyond m * s, or does not rise */
 #define JESTRUNAS_BYTES_FOLLOW 7         /* bytes follow the end */
@@ -60,7 +60,7 @@ extern "C" {
 #define JESTRUNAS_WORKSPACE_TOO_SMALL 9  /* the workspace has fewer than 2^(m * s) / 8 bytes */
 #define JESTRUNAS_CHAIN_IS_NOT_BOX 10    /* the chain of tables is not S */
 /* 11 is retired: no operation answers it, and it is not given again. */
-#define JESTRUNAS_NOT_CORRECT 12         /* some sharing's output shares do not sum to G */
+#define JESTRUNAS_NOT_CORRECT 12         /* some sharing's output shares do not sum to G of its sum */
 #define JESTRUNAS_NOT_NON_COMPLETE 13    /* a component depends on every share */
 #define JESTRUNAS_NOT_UNIFORM 14         /* the sharings of some G(x) do not each come from one sharing of x */
 /* Refusals of the other operations. */

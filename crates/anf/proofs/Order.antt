@@ -1,5 +1,5 @@
 -- The order of terms, and the lists that rise in it. Of the laws of lists the first four alone open `before`: all else holds of any strict total order in which
--- no subset of a term stands behind it. `Passing` opens it too, for the one list that a definition gives.
+-- no subset of a term stands behind it. `PassingLists` opens it too, for the one list that a definition gives.
 use mathlib.Core.Path.{◌≡◌, refl, sym, ap, ◌∙◌}
 use mathlib.Core.Bool.{Bool, true, false, ◌||◌, or_assoc}
 use mathlib.Core.List.{List, [], ◌∷◌, ◌++◌}

@@ -1,4 +1,4 @@
--- The ways out of the tests of one record over plain values: `length_fits`, `framed`, `entries_fit`, `terms_fit` and `fault`. A premise is a test as
+-- The ways out of the tests of one record over plain values: `length_fits`, `framed`, `terms_fit` and `fault`. A premise is a test as
 -- the code has it, or what a call's contract says of its result.
 -- Assumes nothing.
 use Prim.Native.Nat.{ℕ, zero, suc, ◌+◌, ◌*◌, ◌-◌, ◌/◌, ◌%◌, ◌^◌, ◌≤◌, ◌<◌}

@@ -48,7 +48,7 @@ pub fn jestrunas_forecast(file: &[u8]) -> Forecast
 }
 
 /// The verdict on a design file, and its trials: 0 and the number of stages where it is accepted; or 1 to 10 or 12 to 14, with the place in bytes, or the stage
-/// and for 13 the component, counted from 1. With 1 to 9 the workspace is untouched; else its first 2^(m × s) / 8 bytes are zero.
+/// and for 13 the component, counted from 1. With 1 to 9 the workspace is untouched; else its first 2^(m × s) / 8 bytes are zero and the rest is untouched.
 pub fn jestrunas_judge(file: &[u8], workspace: &mut [u8]) -> Judged
     ensures value { result ≡ c_judged (judging file.now (length workspace.old)) }
     ensures workspace_after { workspace.new ≡ workspace_after file.now workspace.old }

@@ -1,4 +1,4 @@
--- `anf::transform` meets its contract: each way out is a law of `Answers`, whose premises `search` finds among what is known there.
+-- `anf::transform` meets its contract: each way out is a law of `TransformAnswer`, whose premises `search` finds among what is known there.
 use Rattle.anf.proofs.TransformAnswer.{answered, no_width, uneven, large, short, done}
 use Rattle.anf.proofs.transform.Goals as goal
 

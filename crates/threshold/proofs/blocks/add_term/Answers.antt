@@ -1,4 +1,4 @@
--- `add_term`: each way out is a law of `Together`.
+-- `add_term`: each way out is a law of `BlockOutputs`.
 use Rattle.threshold.proofs.BlockOutputs.{term_there, term_absent}
 use Rattle.threshold.proofs.blocks.add_term.Goals as goal
 
