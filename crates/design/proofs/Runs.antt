@@ -60,9 +60,6 @@ module _ (f starts : List ℕ) (s : Stands f starts) where
   pub len_is : length starts - 1 ≡ length (lists_in f starts)
   len_is = sym (lists_of_length f starts 0 (run_length starts))
 
-  pub len_few : length starts - 1 ≤ greatest_share_bits
-  len_few = s.few
-
   -- list i
   module _ (i : ℕ) (h : i < length (lists_in f starts)) where
     low : i < run_length starts

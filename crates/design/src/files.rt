@@ -33,7 +33,8 @@ impl<'a> DesignFile<'a> {
 
     /// The box S.
     pub fn box_table(&self) -> &'a [u8]
-        ensures { (result.now ≡ (design_of self.now).box) × (length result.now ≡ 2 ^ self.now.head.m) }
+        ensures value { result.now ≡ (design_of self.now).box }
+        ensures points { length result.now ≡ 2 ^ self.now.head.m }
     {
         let from = self.starts[1];
         &self.file[from..from + self.head.points()]
@@ -42,7 +43,8 @@ impl<'a> DesignFile<'a> {
     /// The table of stage `t`.
     pub fn table(&self, t: usize) -> &'a [u8]
         requires { t < self.now.head.k }
-        ensures { (result.now ≡ (stage_of (design_of self.now) t).table) × (length result.now ≡ 2 ^ self.now.head.m) }
+        ensures value { result.now ≡ (stage_of (design_of self.now) t).table }
+        ensures points { length result.now ≡ 2 ^ self.now.head.m }
     {
         let from = self.starts[self.head.number(t, 0)];
         &self.file[from..from + self.head.points()]
@@ -50,7 +52,8 @@ impl<'a> DesignFile<'a> {
 
     /// List `l` of stage `t`.
     pub fn list(&self, t: usize, l: usize) -> Terms<'a>
-        requires { (t < self.now.head.k) × (l < self.now.head.m * self.now.head.s) }
+        requires stage { t < self.now.head.k }
+        requires list { l < self.now.head.m * self.now.head.s }
         ensures { terms_of result ≡ list_of (design_of self.now) t l }
     {
         let from = self.starts[self.head.number(t, l + 1)];
@@ -61,7 +64,8 @@ impl<'a> DesignFile<'a> {
     /// The lists of stage `t`.
     pub fn lists(&self, t: usize) -> Lists<'_>
         requires { t < self.now.head.k }
-        ensures { (lists_held result ≡ (stage_of (design_of self.now) t).lists) × (length (lists_held result) ≡ self.now.head.m * self.now.head.s) }
+        ensures value { lists_held result ≡ (stage_of (design_of self.now) t).lists }
+        ensures share_bits { length (lists_held result) ≡ self.now.head.m * self.now.head.s }
     {
         let first = self.head.number(t, 1);
         Lists {

@@ -59,22 +59,27 @@ impl Head {
 
     /// How many bits a sharing has.
     pub fn share_bits(self) -> usize
-        ensures { (result ≡ self.m * self.s) × (result ≤ greatest_share_bits) }
+        ensures value { result ≡ self.m * self.s }
+        ensures most { result ≤ greatest_share_bits }
     {
         self.m * self.s
     }
 
     /// The number of the end record, which is how many come before it.
     pub fn last(self) -> usize
-        ensures { (result ≡ last_of (numbers self)) × (result < greatest_records) }
+        ensures value { result ≡ last_of (numbers self) }
+        ensures most { result < greatest_records }
     {
         2 + self.k * (1 + self.m * self.s)
     }
 
     /// The number of a record of stage `t`: its table at `l` 0, its lists from 1 on.
     pub fn number(self, t: usize, l: usize) -> usize
-        requires { (t < self.k) × (l ≤ self.m * self.s) }
-        ensures { (result ≡ number_of (numbers self) t l) × (result < last_of (numbers self)) × (result < greatest_records) }
+        requires stage { t < self.k }
+        requires list { l ≤ self.m * self.s }
+        ensures value { result ≡ number_of (numbers self) t l }
+        ensures before_last { result < last_of (numbers self) }
+        ensures most { result < greatest_records }
     {
         2 + t * (1 + self.m * self.s) + l
     }

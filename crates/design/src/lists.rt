@@ -19,7 +19,8 @@ impl<'a> Lists<'a> {
 
     /// How many they are.
     pub fn len(&self) -> usize
-        ensures { (result ≡ length (lists_held self.now)) × (result ≤ greatest_share_bits) }
+        ensures value { result ≡ length (lists_held self.now) }
+        ensures most { result ≤ greatest_share_bits }
     {
         self.starts.len() - 1
     }

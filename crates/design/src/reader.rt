@@ -30,7 +30,8 @@ fn length_fits(kind: Kind, size: usize, n: usize) -> bool
 // How many bytes the body of the record at `at` has.
 pub fn body_size(file: &[u8], at: usize) -> usize
     requires { at + 2 ≤ length file.now }
-    ensures { (result ≡ u16_at file.now at) × (result < 65536) }
+    ensures value { result ≡ u16_at file.now at }
+    ensures two_bytes { result < 65536 }
 {
     usize::from(u16_at(file, at))
 }
@@ -39,7 +40,8 @@ pub fn body_size(file: &[u8], at: usize) -> usize
 fn framed(file: &[u8], at: usize, kind: Kind, size: usize) -> Result<&[u8], Fault>
     requires { at ≤ length file.now }
     ensures fault { fault_of result ≡ frame_fault file.now at (code kind) size }
-    ensures body { IfOk result (λ body. body.now ≡ take (u16_at file.now at) (drop (at + 4) file.now)) }
+    ensures body { let n = u16_at file.now at in
+        IfOk result (λ body. body.now ≡ take n (drop (at + 4) file.now)) }
 {
     if file.len() - at < 4 {
         return Err(Fault::CutShort);
@@ -86,7 +88,8 @@ fn terms_fit(body: &[u8], bits: usize) -> bool
 
 // The length of the body of record `i`, which starts at `at`, where the record has no fault.
 fn faultless(file: &[u8], head: Head, i: usize, at: usize) -> Result<usize, Fault>
-    requires { (1 ≤ i) × (at ≤ length file.now) }
+    requires behind_head { 1 ≤ i }
+    requires within { at ≤ length file.now }
     ensures fault { fault_of result ≡ fault_at file.now (numbers head) i at }
     ensures size { IfOk result (λ n. n ≡ u16_at file.now at) }
 {
@@ -111,7 +114,8 @@ fn faultless(file: &[u8], head: Head, i: usize, at: usize) -> Result<usize, Faul
 
 // The records after the head.
 fn walk(file: &[u8], head: Head) -> Result<DesignFile<'_>, ReadError>
-    requires { (numbers head ≡ head_of file.now) × (fault_at file.now (numbers head) 0 0 ≡ 0) }
+    requires head { numbers head ≡ head_of file.now }
+    requires faultless { fault_at file.now (numbers head) 0 0 ≡ 0 }
     ensures reading { reading_of result ≡ reading file.now }
     ensures layout { layout_read result ≡ layout_of file.now }
 {

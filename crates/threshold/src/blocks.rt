@@ -75,7 +75,8 @@ impl<'a> Outputs<'a> {
 
     /// Those of all sharings.
     pub fn new(lists: Lists<'a>) -> Self
-        ensures { left result ≡ tabulate (2 ^ length (lists_held lists.entry)) (output (lists_held lists.entry)) }
+        ensures { let ls = lists_held lists.entry in
+            left result ≡ tabulate (2 ^ length ls) (output ls) }
     {
         Outputs {
             lists,

@@ -26,7 +26,8 @@ fn value_of(list: &Terms<'_>, x: u32) -> u32
 /// The output of the lists at the sharing `x`, from the last list down, by its number: no iterator goes over lists from the last, and
 /// one for this loop and that of `add_lists` would be no plainer.
 pub fn output_of(lists: &Lists<'_>, x: u32) -> u32
-    ensures { (result ≡ output (lists_held lists.now) x) × (result < 2 ^ length (lists_held lists.now)) }
+    ensures value { result ≡ output (lists_held lists.now) x }
+    ensures most { result < 2 ^ length (lists_held lists.now) }
 {
     let mut y: u32 = 0;
     for i in (0..lists.len()).rev() {
@@ -37,8 +38,11 @@ pub fn output_of(lists: &Lists<'_>, x: u32) -> u32
 
 /// What component `j` of stage `t` gives at the sharing `x`.
 pub fn component_at(design: &DesignFile<'_>, t: usize, j: usize, x: u32) -> u32
-    requires { (t < design.now.head.k) × (j < design.now.head.s) }
-    ensures { (result ≡ component design.now.head.m (stage_of (design_of design.now) t).lists j x) × (result < 2 ^ design.now.head.m) }
+    requires stage { t < design.now.head.k }
+    requires component { j < design.now.head.s }
+    ensures value { let lists = (stage_of (design_of design.now) t).lists in
+        result ≡ component design.now.head.m lists j x }
+    ensures most { result < 2 ^ design.now.head.m }
 {
     let m = design.head.m;
     output_of(&design.lists(t).part(m * j, m), x)
@@ -56,7 +60,8 @@ pub fn share_mask(m: usize) -> u32
 /// and masked at the end.
 pub fn sum_of(x: u32, m: usize, s: usize) -> u32
     requires { m ≤ greatest_width }
-    ensures { (result ≡ sum m s x) × (result < 2 ^ m) }
+    ensures value { result ≡ sum m s x }
+    ensures most { result < 2 ^ m }
 {
     let mut total: u32 = 0;
     let mut rest = x;

@@ -36,7 +36,8 @@ fn shares_fit(shares: FiveShares, head: Head) -> bool
 // Five shares as one number: share `j` is moved up by j × m bits, so the loop goes by j.
 fn pack(shares: FiveShares, head: Head) -> u32
     requires { shares_fit head.m head.s shares ≡ true }
-    ensures { (result ≡ packed head.m head.s shares) × (result < 2 ^ (head.m * head.s)) }
+    ensures value { result ≡ packed head.m head.s shares }
+    ensures most { result < 2 ^ (head.m * head.s) }
 {
     let mut x: u32 = 0;
     for j in 0..head.s {
@@ -47,8 +48,11 @@ fn pack(shares: FiveShares, head: Head) -> u32
 
 /// Stage `t` run on five shares: each component fills one place.
 pub fn run_stage(design: &DesignFile<'_>, t: usize, shares: FiveShares) -> FiveShares
-    requires { (t < design.now.head.k) × (shares_fit design.now.head.m design.now.head.s shares ≡ true) }
-    ensures { result ≡ unpacked design.now.head.m design.now.head.s (output (stage_of (design_of design.now) t).lists (packed design.now.head.m design.now.head.s shares)) }
+    requires stage { t < design.now.head.k }
+    requires shares { shares_fit design.now.head.m design.now.head.s shares ≡ true }
+    ensures { let lists = (stage_of (design_of design.now) t).lists in
+        let x = packed design.now.head.m design.now.head.s shares in
+        result ≡ unpacked design.now.head.m design.now.head.s (output lists x) }
 {
     let x = pack(shares, design.head);
     let mut out = [0u8; Head::GREATEST_SHARES];
