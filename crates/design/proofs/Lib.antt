@@ -21,3 +21,4 @@ pub mod Theorems
 pub mod Bench
 pub mod Bodies
 pub mod Runs
+pub mod Inserting
