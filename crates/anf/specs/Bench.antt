@@ -1,4 +1,4 @@
--- "Bench designs", the rows of normal form: a table, and its coefficient words.
+-- Rows of the transform (RULES 12): a table, and its coefficient words.
 use Rattle.std.specs.Prelude.{ℕ, ◌≡◌, List, [], ◌∷◌, length}
 use Rattle.anf.specs.Transform.{transform_reason, transform_after}
 

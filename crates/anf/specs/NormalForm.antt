@@ -1,4 +1,4 @@
--- "Normal form": the sum over subsets, and the degree. A set of variables is a number, variable b is its bit b.
+-- Normal form (RULES 2): the sum over subsets, and the degree. A set of variables is a number, variable b is its bit b.
 use Rattle.std.specs.Prelude.{ℕ, zero, suc, ◌^◌, max, eqb}
 use Rattle.std.specs.Int.Count.{ones}
 use Rattle.finite.specs.Tests.{pick}

@@ -1,4 +1,4 @@
--- Tables as lists of entries (the paper's "What the library covers").
+-- Tables as lists of entries (RULES 1.4).
 use Rattle.std.specs.Prelude.{ℕ, ◌^◌, ◌<◌, ◌≡◌, Bool, List, ltb, length, get_or}
 use Rattle.finite.specs.Tests.{all}
 use Rattle.finite.specs.Maps.{Injective}

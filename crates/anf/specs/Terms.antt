@@ -1,4 +1,4 @@
--- "Normal form": terms, lists of terms and their order. A term is the set of its variables, and is 1 at a point that has them all.
+-- Normal form (RULES 2): terms, lists of terms and their order. A term is the set of its variables, and is 1 at a point that has them all.
 use Rattle.std.specs.Prelude.{ℕ, zero, suc, ◌+◌, ◌^◌, ◌<◌, ◌≡◌, ◌≢◌, Bool, true, false, not, ◌||◌, List, [], ◌∷◌, ◌++◌, eqb, ltb, length, get_or}
 use Rattle.std.specs.Int.Bits.{bit_and, bit_xor}
 use Rattle.finite.specs.Tests.{pick}

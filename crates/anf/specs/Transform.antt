@@ -1,5 +1,5 @@
--- "To coefficients and back": the answer, and the output afterwards. The sums over subsets of a table are its coefficient words, and of
--- coefficient words they are the table: one operation goes both ways.
+-- The transform (RULES 12): the answer, and the output afterwards. The sums over subsets of a table are its coefficient words, and of coefficient
+-- words they are the table: one operation goes both ways.
 use Rattle.std.specs.Prelude.{ℕ, ◌^◌, not, ◌||◌, Bool, List, ◌++◌, ◌∷◌, [], eqb, ltb, length, get_or, drop}
 use Rattle.reasons.specs.Numbers.{number}
 use Rattle.reasons.specs.declared.Reason.TheVariants.{WrongLength, LimitBroken, EntryTooLarge, OutputTooShort}

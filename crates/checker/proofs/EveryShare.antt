@@ -13,7 +13,7 @@ use Rattle.finite.specs.Tests.{any}
 use Rattle.finite.proofs.Testing.{or_false_right, all_at, all_intro, all_fails, all_congr, any_at, any_some, any_step, any_none_more}
 use Rattle.anf.specs.Terms.{named, names}
 use Rattle.anf.proofs.Terms.{named_or}
-use Rattle.design.specs.Limits.{broken, greatest_width}
+use Rattle.design.specs.Limits.{broken}
 use Rattle.records.specs.Design.{Stage}
 use Rattle.design.specs.WellFormed.{StageFits}
 use Rattle.design.proofs.Limits.{bounds}

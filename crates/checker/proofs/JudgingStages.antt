@@ -39,15 +39,6 @@ refusal_some (NotCorrect stage) = λ z. omega arith
 refusal_some (NotNonComplete stage component) = λ z. omega arith
 refusal_some (NotUniform stage) = λ z. omega arith
 
--- a refusal's number is not 0
-refusal_some : (r : Refusal) → (refused_with r).reason ≢ 0
-refusal_some (Unreadable error) = number_some (fault_reason error.fault)
-refusal_some BoxRepeats = λ z. omega arith
-refusal_some WorkspaceTooSmall = λ z. omega arith
-refusal_some ChainIsNotBox = λ z. omega arith
-refusal_some (NotCorrect stage) = λ z. omega arith
-refusal_some (NotNonComplete stage component) = λ z. omega arith
-refusal_some (NotUniform stage) = λ z. omega arith
 
 -- what stage t answers, with its trials
 told : (d : Design) (t : ℕ) (v : Verdict) (n : ℕ) → v ≡ stage_judged d t → n ≡ stage_tries d t v.reason → counted v n ≡ stage_judging d t

@@ -1,5 +1,5 @@
--- What the verdict says of a design, as facts about its tables and component functions ("Terms of threshold implementation", "Linear layers that keep
--- their shares"); then of a file: when it is accepted ("Verdict").
+-- What the verdict says of a design, as facts about its tables and component functions (RULES 1.8 to 1.12); then of a file: when it is accepted
+-- (RULES 6).
 use Rattle.std.specs.Prelude.{ℕ, ◌+◌, ◌^◌, ◌<◌, ◌≤◌, ◌≡◌, List}
 use Rattle.reasons.specs.Numbers.{number}
 use Rattle.reasons.specs.declared.Reason.TheVariants.{BoxRepeats, WorkspaceTooSmall, ChainIsNotBox, NotCorrect, NotNonComplete, NotUniform}

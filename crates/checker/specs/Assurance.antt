@@ -1,5 +1,5 @@
--- The assurance: what follows where the verdict on a file has reason 0 (the paper's "Reviewer's checklist", demand 3, and "Linear layers that keep their
--- shares"). It counts over the definitions of sharings, stages and runs.
+-- The assurance: what follows where the verdict on a file has reason 0 (RULES 6.8 to 6.11). It counts over the definitions of sharings, stages and
+-- runs.
 use Rattle.std.specs.Prelude.{ℕ, ◌-◌, ◌*◌, ◌^◌, ◌<◌, ◌≡◌, Bool, true, List, eqb, length}
 use Rattle.anf.specs.Tables.{entry}
 use Rattle.design.specs.Limits.{greatest_shares}

@@ -1,5 +1,5 @@
--- "Bench designs" of the verdict with its trials, of the forecast and of running: tables of files, what they are given, and answers. And how often what a
--- component reads is met.
+-- Rows of the verdict with its trials, of the forecast and of running: files, what they are given, and answers. And how often what a component reads
+-- is met.
 use Rattle.std.specs.Prelude.{ℕ, List, [], ◌∷◌}
 use Rattle.records.specs.Design.{Stage}
 use Rattle.records.specs.Encode.{encode}

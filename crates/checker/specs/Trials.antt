@@ -1,5 +1,5 @@
--- "Machine time before booking": the trials that a verdict takes; and the forecast, from the head record alone, of the workspace and of the most trials.
--- A trial puts one sharing through one stage.
+-- Trials and forecast (RULES 7): the trials that a verdict takes; and, from the head record alone, the forecast of the workspace and of the most
+-- trials. A trial puts one sharing through one stage.
 use Rattle.std.specs.Prelude.{ℕ, ◌+◌, ◌*◌, ◌-◌, ◌^◌, Bool, not, ◌&&◌, ◌||◌, List, eqb, leb}
 use Rattle.reasons.specs.Numbers.{number}
 use Rattle.reasons.specs.declared.Reason.TheVariants.{NotCorrect, NotNonComplete, NotUniform}

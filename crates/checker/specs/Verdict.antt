@@ -1,4 +1,4 @@
--- "Verdict": on a file and a workspace three numbers, the first fault in the published order; and the workspace afterwards.
+-- The verdict (RULES 6): on a file and a workspace three numbers, the first fault in the published order; and the workspace afterwards.
 use Rattle.std.specs.Prelude.{ℕ, suc, ◌+◌, ◌*◌, ◌/◌, ◌^◌, Bool, not, ◌&&◌, List, [], ◌∷◌, ◌++◌, length, drop, replicate, eqb, ltb, leb}
 use Rattle.reasons.specs.Numbers.{number}
 use Rattle.reasons.specs.declared.Reason.TheVariants.{BoxRepeats, WorkspaceTooSmall, ChainIsNotBox, NotCorrect, NotNonComplete, NotUniform}

@@ -3,7 +3,7 @@ ghost use Rattle.std.specs.Prelude.{◌≡◌, ◌/◌, ◌≤◌, ◌<◌, leng
 ghost use Rattle.checker.specs.Verdict.{zeroed};
 ghost use Rattle.checker.specs.Inside.Marks.{marked, mark};
 
-// Zeroes the first `n` bytes: a function for the definition by which the papers say it.
+// Zeroes the first `n` bytes: a function for the definition that says so (RULES 6.4).
 pub fn clear(marks: &mut [u8], n: usize)
     requires { n ≤ length marks.old }
     ensures { marks.new ≡ zeroed n marks.old }

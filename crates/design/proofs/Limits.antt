@@ -82,7 +82,7 @@ module _ (m s k : ℕ) where
       at true z = let o : ◌≡◌ {A = ℕ} 0 4 = ap reason_of z in absurd (omega arith)
       at false z = cc
 
--- ---- and in the paper's numbers
+-- ---- and in numbers
 
 module _ (m s k : ℕ) where
   pub head_answer_lem : head_answer (checked m s k) ≡ pick (broken m s k) (4, []) (0, m ∷ s ∷ k ∷ [])

@@ -1,4 +1,4 @@
--- "Bench designs": what files read as, and which heads pass.
+-- Rows of reading (RULES 5): what files read as, and which heads pass.
 use Rattle.std.specs.Prelude.{ℕ, List, [], ◌∷◌, ◌++◌}
 use Rattle.records.specs.Design.{Design}
 use Rattle.design.specs.Reading.{Reading, refused, means}
@@ -33,7 +33,7 @@ head_file m s = 3 ∷ 0 ∷ 1 ∷ 0 ∷ m ∷ s ∷ 1 ∷ []
 abbrev pub start_d : List ℕ
 start_d = 3 ∷ 0 ∷ 1 ∷ 0 ∷ 1 ∷ 3 ∷ 1 ∷ 2 ∷ 0 ∷ 2 ∷ 0 ∷ 0 ∷ 1 ∷ 2 ∷ 0 ∷ 2 ∷ 0 ∷ 0 ∷ 1 ∷ []
 
--- a head's numbers, and the paper's number and values for its answer
+-- a head's numbers, and the number and the values of its answer
 pub record HeadRow : Type 0 where
   pub m : ℕ
   pub s : ℕ

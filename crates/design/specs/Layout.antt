@@ -1,4 +1,4 @@
--- "Reading": what the reader answers. A supplier's own reader must answer just this.
+-- What the reader answers. A maker's own reader must answer just this (RULES 5.5).
 use Rattle.std.specs.Prelude.{ℕ, ◌+◌, List, ◌++◌, drop, replicate, eqb}
 use Rattle.finite.specs.Tests.{pick, tabulate}
 use Rattle.design.specs.Limits.{Head, greatest_records}

@@ -1,4 +1,4 @@
--- "What the library covers": the limits, which are fixed with the head and belong to it. "The design file": the limit of a list.
+-- The limits (RULES 3): those of m, s and k, which are fixed with the head and belong to it, and that of a list.
 use Rattle.std.specs.Prelude.{ℕ, ◌+◌, ◌*◌, ◌^◌, Bool, ◌||◌, List, [], ◌∷◌, ltb, Result, Ok, Err}
 use Rattle.finite.specs.Tests.{pick}
 use Rattle.anf.specs.Transform as transform
@@ -48,7 +48,7 @@ broken m s k =
 abbrev pub checked : ℕ → ℕ → ℕ → Result Head Reason
 checked m s k = pick (broken m s k) (Err LimitBroken) (Ok (record { m = m; s = s; k = k }))
 
--- the paper's number and values for each of its cases: "4 when a head number breaks a limit"
+-- the number and the values of each of its cases: 4 where a head number breaks a limit
 abbrev pub head_answer : Result Head Reason → ℕ × List ℕ
 head_answer (Ok h) = (0, h.m ∷ h.s ∷ h.k ∷ [])
 head_answer (Err r) = (number r, [])

@@ -1,4 +1,4 @@
--- "Reading": the first fault of a file with its place, or the design that it means.
+-- Reading (RULES 5): the first fault of a file with its place, or the design that it means.
 use Rattle.std.specs.Prelude.{ℕ, zero, suc, ◌+◌, ◌*◌, ◌-◌, ◌/◌, ◌%◌, ◌^◌, List, [], ◌∷◌, ◌++◌, Bool, ◌&&◌, ◌||◌, not, length, take, drop, ltb, leb, eqb}
 use Rattle.reasons.specs.Numbers.{number}
 use Rattle.reasons.specs.declared.Reason.TheVariants.{CutShort, WrongKind, WrongLength, EntryTooLarge, BadTerm, BytesFollow}
@@ -16,7 +16,7 @@ pub data Reading : Type 0 where
   refused : ℕ → ℕ → Reading
   means : Design → Reading
 
--- ---- "The design file": the records that are due, numbered from 0 on.
+-- ---- The records that are due (RULES 4.3), numbered from 0 on.
 
 -- the three numbers of the head
 abbrev pub head_of : List ℕ → Head

@@ -1,4 +1,4 @@
--- "Reading": what a refusal says of the file, as propositions. Records are numbered from 0 on; record i starts at `place f i`.
+-- What a refusal of reading says of the file, as propositions (RULES 5.1). Records are numbered from 0 on; record i starts at `place f i`.
 use Rattle.std.specs.Prelude.{ℕ, ◌+◌, ◌*◌, ◌/◌, ◌%◌, ◌^◌, ◌≤◌, ◌<◌, ◌≡◌, true, List, length}
 use Rattle.reasons.specs.Numbers.{number}
 use Rattle.reasons.specs.declared.Reason.TheVariants.{CutShort, WrongKind, WrongLength, LimitBroken, EntryTooLarge, BadTerm, BytesFollow}

@@ -1,4 +1,4 @@
--- Which designs have a file, and when two have one meaning.
+-- Which designs have a file, and when two have one meaning (RULES 4.6, 4.8, 5.4).
 use Rattle.std.specs.Prelude.{ℕ, ◌*◌, ◌^◌, ◌≤◌, ◌<◌, ◌≡◌, false, List, [], length, get_or}
 use Rattle.anf.specs.Terms.{IsTermList, value_at}
 use Rattle.anf.specs.Tables.{TableFits}

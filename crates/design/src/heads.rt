@@ -10,7 +10,7 @@ use reasons::Reason;
 use records::Kind;
 
 /// Bits, shares and stages of a design, none beyond the limits.
-#[derive(Clone, Copy)]
+#[derive(Clone, Copy, Debug, PartialEq, Eq)]
 pub struct Head {
     pub m: usize,
     pub s: usize,

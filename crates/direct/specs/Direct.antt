@@ -1,4 +1,4 @@
--- "The direct sharing" of a box.
+-- The direct sharing of a box (RULES 9).
 use Rattle.std.specs.Prelude.{ℕ, ◌+◌, ◌-◌, ◌*◌, ◌/◌, ◌%◌, ◌^◌, ◌≡◌, ◌<◌, ◌≤◌, Bool, false, not, ◌&&◌, List, [], ◌∷◌, length, get_or, eqb, leb}
 use Rattle.finite.specs.Tests.{pick, all, any, first, total, bit, count, tabulate}
 use Rattle.finite.specs.Sets.{has}
@@ -73,13 +73,13 @@ direct_stage m s place t = record { table = t; lists = direct_lists m s place (s
 unfoldable pub direct_sharing : ℕ → ℕ → (ℕ → ℕ) → List ℕ → Design
 direct_sharing m s place t = record { m = m; s = s; k = 1; box = t; stages = direct_stage m s place t ∷ [] }
 
--- "Terms of threshold implementation": some component functions, whatever they are, share the table correctly and non-completely with s shares
+-- some component functions, whatever they are, share the table correctly and non-completely with s shares (RULES 9.9)
 pub record Shareable (m s : ℕ) (t : List ℕ) : Type 0 where
   pub F : ℕ → ℕ → ℕ
   pub correct : Correct m s F t
   pub non_complete : NonComplete m s F
 
--- "What the library covers": a permutation table within the limits
+-- a permutation table within the limits
 pub record Box (m s : ℕ) (t : List ℕ) : Type 0 where
   pub limits : broken m s 1 ≡ false
   pub table : TableFits m t

@@ -105,7 +105,7 @@ degree_limit = shares_bound
 pub file_exactly : (f : List ℕ) (d : Design) → Bytes f → (reading f ≡ means d) ↔ (WellFormed d × (f ≡ encode d))
 file_exactly = design_theorems.file_exactly
 
--- What the head's constructor answers, by the paper's number and values: 4 where a number breaks a limit, else 0 and the three numbers.
+-- What the head's constructor answers, by number and values: 4 where a number breaks a limit, else 0 and the three numbers.
 pub head_answer_lem : (m s k : ℕ) → head_answer (checked m s k) ≡ pick (broken m s k) (4, []) (0, m ∷ s ∷ k ∷ [])
 head_answer_lem = limits.head_answer_lem
 
@@ -122,7 +122,7 @@ one_meaning_one_file = design_theorems.one_meaning_one_file
 
 -- ---- The terms of threshold implementation
 
--- For permutations uniform agrees with the count in document 003.
+-- For permutations uniform agrees with the count of Bilgin and others (RULES 1.11).
 pub uniform_counted : (w s : ℕ) (g : Stage) → StageFits w s g → Permutation w g.table → Correct w s (component w g.lists) g.table
     → Uniform w s (output g.lists) g.table ↔ CountedUniform w s (output g.lists) g.table
 uniform_counted w s g fits = stage_uniform↔counted w s g fits.table fits.count
@@ -325,7 +325,7 @@ joined_length = joined_lengths.joined_length
 pub joined_room : (f g : List ℕ) (room : ℕ) → Bytes f → Bytes g → length f + length g ≤ room → joined_reason f g room ≢ 17
 joined_room = joined_lengths.joined_room
 
--- ---- 10. Bench. Every starred design of the papers answers as it must; what a component reads is met as often, and files are joined, as rows say.
+-- ---- 10. Bench. Every row answers as it must; what a component reads is met as often, and files are joined, as rows say.
 
 pub record Bench : Type 0 where
   pub transforms : bench_anf.AllPass bench_anf.rows

@@ -1,4 +1,4 @@
--- "Through the seam": a run that goes on.
+-- A run that goes on (RULES 11.7).
 use Rattle.std.specs.Prelude.{ℕ, List, eqb}
 use Rattle.finite.specs.Tests.{pick}
 use Rattle.threshold.specs.Running.{running, Ran}

@@ -27,7 +27,7 @@ c_ran r = record { reason = r.reason; shares = r.shares }
 abbrev pub c_produced : writing.Produced → Produced
 c_produced p = record { reason = p.reason; length = p.length }
 
--- "Reading" alone, as it is published: reason, place and 0; on success all three are 0.
+-- Reading alone, as it is published (RULES 5.2, 5.3): reason, place and 0; on success all three are 0.
 unfoldable pub read_answer : List ℕ → verdict.Verdict
 read_answer f = verdict.answer (reason_of (reading f)) (place_of (reading f)) 0
 

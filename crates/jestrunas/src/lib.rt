@@ -18,14 +18,14 @@ use checker::Refusal;
 use reasons::Reason;
 use threshold::FiveShares;
 
-// Five shares, the greatest number of them, by value; the unused ones are zero. A struct, as C passes no array by value.
+/// Five shares, the greatest number of them, by value: share j is below 2^m, and those after the s-th are 0. A struct, as C passes no array by value.
 #[repr(C)]
-#[derive(Clone, Copy)]
+#[derive(Clone, Copy, Debug, PartialEq, Eq)]
 pub struct Shares {
     pub share: FiveShares,
 }
 
-// Reads a design file: the first fault and its place, or three zeros. Where all is well that is not a verdict's answer, which has the number of stages.
+/// Reads a design file (RULES 5): the first fault, 1 to 7, and its place in bytes from the start of the file; three zeros where the file reads.
 pub fn jestrunas_read(file: &[u8]) -> Verdict
     ensures { result ≡ c_verdict (read_answer file.now) }
 {
@@ -39,14 +39,16 @@ pub fn jestrunas_read(file: &[u8]) -> Verdict
     }
 }
 
-// What a verdict on a design file can take, from its head record alone.
+/// What a verdict on a design file can take, from its head record alone: bytes of workspace, and trials at most; or 1 to 4, the fault of the head record, and
+/// two zeros.
 pub fn jestrunas_forecast(file: &[u8]) -> Forecast
     ensures { result ≡ c_forecast (forecast file.now) }
 {
     Forecast::from(checker::foresee(file))
 }
 
-// The verdict on a design file, and its trials.
+/// The verdict on a design file, and its trials: 0 and the number of stages where it is accepted; or 1 to 10 or 12 to 14, with the place in bytes, or the stage
+/// and for 13 the component, counted from 1. With 1 to 9 the workspace is untouched; else its first 2^(m × s) / 8 bytes are zero.
 pub fn jestrunas_judge(file: &[u8], workspace: &mut [u8]) -> Judged
     ensures value { result ≡ c_judged (judging file.now (length workspace.old)) }
     ensures workspace_after { workspace.new ≡ workspace_after file.now workspace.old }
@@ -54,14 +56,16 @@ pub fn jestrunas_judge(file: &[u8], workspace: &mut [u8]) -> Judged
     Judged::from(checker::judge(file, workspace))
 }
 
-// Runs the chain of a design file on five shares.
+/// Runs the chain of a design file on five shares: 0 and the output shares; or 1 to 7, a fault of reading, or 15, a share of 2^m or more or one after the
+/// s-th that is not 0, with five zeros.
 pub fn jestrunas_run(file: &[u8], shares: Shares) -> Ran
     ensures { result ≡ c_ran (running file.now shares.share) }
 {
     Ran::from(threshold::run(file, shares.share))
 }
 
-// Writes the direct sharing of a table by a placement.
+/// Writes the direct sharing of a table of 2^m entries with s shares by a placement: 0 and the length of the file in bytes; or 3, 4, 5, 8, 16, 17 or 21, with
+/// length 0 and the output untouched.
 pub fn jestrunas_produce(
     m: usize,
     s: usize,
@@ -75,7 +79,8 @@ pub fn jestrunas_produce(
     Produced::from(producer::produce(m, s, table, placement, output))
 }
 
-// Joins two design files into one.
+/// Joins two design files into one, the second behind the first: 0 and the length of the file in bytes; or 1 to 7, a fault of reading, 17, 19 or 20, with
+/// length 0 and the output untouched.
 pub fn jestrunas_join(first: &[u8], second: &[u8], output: &mut [u8]) -> Produced
     ensures value { result ≡ c_produced (joining first.now second.now (length output.old)) }
     ensures output_after { output.new ≡ joined_after first.now second.now output.old }
@@ -93,7 +98,7 @@ fn number(outcome: Result<(), Reason>) -> usize
     }
 }
 
-// The coefficient words of a table, or the table of coefficient words.
+/// The 2^m coefficient words of a table, or the table of coefficient words: 0; or 3, 4, 5 or 17, with the output untouched.
 pub fn jestrunas_transform(m: usize, input: &[u8], output: &mut [u8]) -> usize
     ensures value { result ≡ transform_reason m input.now (length output.old) }
     ensures output_after { output.new ≡ transform_after m input.now output.old }

@@ -13,7 +13,7 @@ ghost use Rattle.jestrunas.specs.Published.{c_verdict, c_judged, c_forecast, c_r
 
 use jestrunas::{Forecast, Judged, Produced, Ran, Shares, Verdict};
 
-// Reads a design file: the first fault and its place, or three zeros.
+/// Reads a design file (RULES 5): the first fault, 1 to 7, and its place in bytes from the start of the file; three zeros where the file reads.
 #[unsafe(no_mangle)]
 pub extern "C" fn jestrunas_read(file: &[u8]) -> Verdict
     ensures { result ≡ c_verdict (read_answer file.now) }
@@ -21,7 +21,8 @@ pub extern "C" fn jestrunas_read(file: &[u8]) -> Verdict
     jestrunas::jestrunas_read(file)
 }
 
-// What a verdict on a design file can take, from its head record alone.
+/// What a verdict on a design file can take, from its head record alone: bytes of workspace, and trials at most; or 1 to 4, the fault of the head record, and
+/// two zeros.
 #[unsafe(no_mangle)]
 pub extern "C" fn jestrunas_forecast(file: &[u8]) -> Forecast
     ensures { result ≡ c_forecast (forecast file.now) }
@@ -29,7 +30,8 @@ pub extern "C" fn jestrunas_forecast(file: &[u8]) -> Forecast
     jestrunas::jestrunas_forecast(file)
 }
 
-// The verdict on a design file, and its trials.
+/// The verdict on a design file, and its trials: 0 and the number of stages where it is accepted; or 1 to 10 or 12 to 14, with the place in bytes, or the stage
+/// and for 13 the component, counted from 1. With 1 to 9 the workspace is untouched; else its first 2^(m × s) / 8 bytes are zero.
 #[unsafe(no_mangle)]
 pub extern "C" fn jestrunas_judge(file: &[u8], workspace: &mut [u8]) -> Judged
     ensures value { result ≡ c_judged (judging file.now (length workspace.old)) }
@@ -38,7 +40,8 @@ pub extern "C" fn jestrunas_judge(file: &[u8], workspace: &mut [u8]) -> Judged
     jestrunas::jestrunas_judge(file, workspace)
 }
 
-// Runs the chain of a design file on five shares.
+/// Runs the chain of a design file on five shares: 0 and the output shares; or 1 to 7, a fault of reading, or 15, a share of 2^m or more or one after the
+/// s-th that is not 0, with five zeros.
 #[unsafe(no_mangle)]
 pub extern "C" fn jestrunas_run(file: &[u8], shares: Shares) -> Ran
     ensures { result ≡ c_ran (running file.now shares.share) }
@@ -46,7 +49,8 @@ pub extern "C" fn jestrunas_run(file: &[u8], shares: Shares) -> Ran
     jestrunas::jestrunas_run(file, shares)
 }
 
-// Writes the direct sharing of a table by a placement.
+/// Writes the direct sharing of a table of 2^m entries with s shares by a placement: 0 and the length of the file in bytes; or 3, 4, 5, 8, 16, 17 or 21, with
+/// length 0 and the output untouched.
 #[unsafe(no_mangle)]
 pub extern "C" fn jestrunas_produce(
     m: usize,
@@ -61,7 +65,8 @@ pub extern "C" fn jestrunas_produce(
     jestrunas::jestrunas_produce(m, s, table, placement, output)
 }
 
-// Joins two design files into one.
+/// Joins two design files into one, the second behind the first: 0 and the length of the file in bytes; or 1 to 7, a fault of reading, 17, 19 or 20, with
+/// length 0 and the output untouched.
 #[unsafe(no_mangle)]
 pub extern "C" fn jestrunas_join(first: &[u8], second: &[u8], output: &mut [u8]) -> Produced
     ensures value { result ≡ c_produced (joining first.now second.now (length output.old)) }
@@ -70,7 +75,7 @@ pub extern "C" fn jestrunas_join(first: &[u8], second: &[u8], output: &mut [u8])
     jestrunas::jestrunas_join(first, second, output)
 }
 
-// The coefficient words of a table, or the table of coefficient words.
+/// The 2^m coefficient words of a table, or the table of coefficient words: 0; or 3, 4, 5 or 17, with the output untouched.
 #[unsafe(no_mangle)]
 pub extern "C" fn jestrunas_transform(m: usize, input: &[u8], output: &mut [u8]) -> usize
     ensures value { result ≡ transform_reason m input.now (length output.old) }

@@ -1,4 +1,4 @@
--- "Chaining two boxes": what joining answers and leaves, as rows.
+-- Rows of joining (RULES 11): what it answers and leaves.
 use Rattle.std.specs.Prelude.{ℕ, List, [], ◌∷◌, ◌++◌, replicate, take}
 use Rattle.records.specs.Writing.{Produced}
 use Rattle.records.specs.Design.{Stage}

@@ -1,4 +1,4 @@
--- "Chaining two boxes": two designs joined into one; the answer of joining their files, and the output afterwards.
+-- Joining (RULES 11): two designs joined into one; the answer of joining their files, and the output afterwards.
 use Rattle.std.specs.Prelude.{ℕ, ◌+◌, ◌≤◌, ◌<◌, ◌≡◌, Bool, not, ◌&&◌, List, [], ◌∷◌, ◌++◌, map, eqb, ltb, length}
 use Rattle.reasons.specs.Numbers.{number}
 use Rattle.reasons.specs.declared.Reason.TheVariants.{OutputTooShort, SharesDiffer, TooManyStages}

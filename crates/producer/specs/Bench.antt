@@ -1,4 +1,4 @@
--- "Bench designs": what producing answers and leaves.
+-- Rows of producing (RULES 10): what it answers and leaves.
 use Rattle.std.specs.Prelude.{ℕ, List, [], ◌∷◌, ◌++◌}
 use Rattle.finite.specs.Tests.{tabulate}
 use Rattle.records.specs.Writing.{Produced}

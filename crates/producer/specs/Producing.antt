@@ -1,4 +1,4 @@
--- "Producing": the answer, and the output afterwards.
+-- Producing (RULES 10): the answer, and the output afterwards.
 use Rattle.std.specs.Prelude.{ℕ, ◌+◌, ◌*◌, ◌^◌, ◌≤◌, ◌<◌, Bool, not, List, [], ◌∷◌, length, eqb, ltb, leb}
 use Rattle.std.specs.Int.Count.{ones}
 use Rattle.reasons.specs.Numbers.{number}

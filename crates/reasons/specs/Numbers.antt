@@ -1,4 +1,4 @@
--- "Verdict", the table of reasons: the number of each. Success is 0; 11 is retired, and not given again.
+-- The number of each reason (RULES 14). Success is 0; 11 is retired, and not given again.
 use Rattle.std.specs.Prelude.{ℕ, Result, Ok, Err}
 use Rattle.reasons.specs.declared.Reason.{Reason}
 use Rattle.reasons.specs.declared.Reason.TheVariants.{CutShort, WrongKind, WrongLength, LimitBroken, EntryTooLarge, BadTerm, BytesFollow, BoxRepeats}

@@ -1,4 +1,4 @@
--- "The design file", its bytes: numbers of two and of four bytes, little-endian, and lists of terms.
+-- The bytes of a design file (RULES 4.1): numbers of two and of four bytes, little-endian, and lists of terms.
 use Rattle.std.specs.Prelude.{ℕ, ◌+◌, ◌*◌, ◌/◌, ◌%◌, ◌<◌, List, [], ◌∷◌, ◌++◌, get_or}
 
 -- a list of bytes

@@ -1,4 +1,4 @@
--- A design: an S-box and a chain of stages. It is what a design file holds.
+-- A design: an S-box and a chain of stages. It is what a design file holds (RULES 4).
 use Rattle.std.specs.Prelude.{ℕ, List, [], get_or}
 
 -- A stage: its table G, and its m × s lists of terms, component 1 first and in each component bit 0 first.

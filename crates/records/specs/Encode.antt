@@ -1,4 +1,4 @@
--- "The design file", record by record: the bytes of the one file that means a design, and of its pieces.
+-- The design file (RULES 4), record by record: the bytes of the one file that means a design, and of its pieces.
 use Rattle.std.specs.Prelude.{ℕ, List, [], ◌∷◌, ◌++◌, map}
 use Rattle.std.specs.List.{concat}
 use Rattle.records.specs.Records.{a_record, list_record, end_record}

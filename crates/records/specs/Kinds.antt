@@ -1,4 +1,4 @@
--- "The design file", the kinds of its records: the number of each.
+-- The kinds of records (RULES 4.3): the number of each.
 use Rattle.std.specs.Prelude.{ℕ}
 use Rattle.records.specs.declared.kind.Kind.{Kind}
 use Rattle.records.specs.declared.kind.Kind.TheVariants.{Head, Table, List, End}

@@ -1,4 +1,4 @@
--- "The design file", its records: a two-byte body length, a two-byte kind, then the body.
+-- The records of a design file (RULES 4.2): a two-byte body length, a two-byte kind, then the body.
 use Rattle.std.specs.Prelude.{ℕ, List, [], ◌++◌, length}
 use Rattle.records.specs.Bytes.{two, term_bytes}
 

@@ -1,4 +1,4 @@
--- "Producing": the answer and the output afterwards, over the first refusal, or 0, and the file that is asked for.
+-- Writing a file (RULES 10.2, 10.3): the answer and the output afterwards, over the first refusal, or 0, and the file that is asked for.
 use Rattle.std.specs.Prelude.{ℕ, Result, Ok, Err, List, ◌++◌, eqb, length, drop}
 use Rattle.reasons.specs.declared.Reason.{Reason}
 use Rattle.reasons.specs.Numbers.{number}

@@ -1,5 +1,5 @@
 -- A value carried through bijections: h moves sharings, g the values that they share. Over plain functions of numbers below N and M.
--- Where h is correct for a permutation g, uniform, injective and counted as in document 003 are the same.
+-- Where h is correct for a permutation g, uniform, injective and counted over all sharings are the same.
 -- Assumes nothing.
 use mathlib.Core.Path.{◌≡◌, refl, sym, ap, ◌∙◌}
 use mathlib.Core.Bool.{Bool, true, ◌&&◌}

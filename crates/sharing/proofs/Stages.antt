@@ -1,5 +1,5 @@
--- Component functions that are correct for a permutation carry sharings; they are uniform exactly when no output sharing is met twice, and exactly when
--- they have the count in document 003. Assumes nothing.
+-- Component functions that are correct for a permutation carry sharings; they are uniform exactly when no output sharing is met twice, and exactly
+-- when they have the count of `CountedUniform`. Assumes nothing.
 use mathlib.Core.Path.{◌≡◌, refl, ◌∙◌, subst}
 use mathlib.Core.Logic.{◌↔◌}
 use mathlib.Core.Bool.{Bool, true, false, not}

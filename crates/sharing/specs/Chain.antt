@@ -1,5 +1,5 @@
--- A chain of stages: what its tables make of a value, what each stage is handed, the meetings of a setting, and those of what a component reads (the
--- paper's "Terms of threshold implementation", and "Linear layers that keep their shares").
+-- A chain of stages: what its tables make of a value, what each stage is handed, the meetings of a setting, and those of what a component reads
+-- (RULES 1.12 to 1.15).
 use Rattle.std.specs.Prelude.{ℕ, zero, suc, ◌*◌, ◌^◌, Bool, ◌&&◌, List, [], ◌∷◌, eqb, get_or}
 use Rattle.finite.specs.Tests.{all, count, implies}
 use Rattle.anf.specs.Tables.{entry}

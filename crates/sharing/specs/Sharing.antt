@@ -1,5 +1,5 @@
--- Sharings (the paper's "Terms of threshold implementation"). A sharing of width w in s shares is a number below 2^(w × s); share 0 is its lowest w
--- bits, share 1 the next. In answers shares and components are counted from 1.
+-- Sharings (RULES 1.5, 1.6). A sharing of width w in s shares is a number below 2^(w × s); share 0 is its lowest w bits, share 1 the next. In answers
+-- shares and components are counted from 1.
 use Rattle.std.specs.Prelude.{ℕ, ◌+◌, ◌*◌, ◌/◌, ◌%◌, ◌^◌, List, get_or}
 use Rattle.finite.specs.Tests.{total}
 use Rattle.finite.specs.Sums.{xor_below}

@@ -1,5 +1,4 @@
--- A stage as functions: its components, and what correct, non-complete and uniform mean of them (the paper's "Terms of threshold implementation";
--- non-complete by "Linear layers that keep their shares").
+-- A stage as functions: its components, and what correct, non-complete and uniform mean of them (RULES 1.7 to 1.11).
 use Rattle.std.specs.Prelude.{ℕ, ◌+◌, ◌*◌, ◌^◌, ◌<◌, ◌≡◌, Bool, ◌&&◌, not, List, [], ◌∷◌, eqb}
 use Rattle.finite.specs.Tests.{all, any, count, implies}
 use Rattle.finite.specs.Sums.{xor_below}
@@ -47,13 +46,13 @@ abbrev pub Uniform : ℕ → ℕ → (ℕ → ℕ) → List ℕ → Type 0
 Uniform w s out g =
     (x : ℕ) → x < 2 ^ w → (τ : ℕ) → τ < 2 ^ (w * s) → sum w s τ ≡ entry g x → ExactlyOne (2 ^ (w * s)) (λ σ. (sum w s σ ≡ x) × (out σ ≡ τ))
 
--- The count in document 003, section 2.1: each output sharing comes from as many sharings as there are x whose G(x) it shares. (There times
--- 2^((s - 1) (m - n)) for a function from m bits to n, which is 1 here: G has as many bits as its input.)
+-- The count of Bilgin and others, section 2.1 (docs/NAMES.md): each output sharing comes from as many sharings as there are x whose G(x) it shares.
+-- (There times 2^((s - 1) (m - n)) for a function from m bits to n, which is 1 here: G has as many bits as its input.)
 abbrev pub CountedUniform : ℕ → ℕ → (ℕ → ℕ) → List ℕ → Type 0
 CountedUniform w s out g =
     (τ : ℕ) → τ < 2 ^ (w * s) → count (2 ^ (w * s)) (λ σ. eqb (out σ) τ) ≡ count (2 ^ w) (λ x. eqb (entry g x) (sum w s τ))
 
--- ---- The same as tests of a stage (the paper's "Verdict").
+-- ---- The same as tests of a stage.
 
 -- at σ the output of the lists sums to what the table makes of the sum
 abbrev pub sums_right : ℕ → ℕ → List (List ℕ) → List ℕ → ℕ → Bool

@@ -1,4 +1,4 @@
--- Running a chain on five shares, the greatest number of them: bytes that travel together, unused ones zero (the paper's "Running a chain").
+-- Running a chain on five shares, the greatest number of them: bytes that travel together, unused ones zero (RULES 8).
 use Rattle.std.specs.Prelude.{ℕ, ◌^◌, Bool, List, eqb, ltb, get_or, replicate}
 use Rattle.reasons.specs.Numbers.{number}
 use Rattle.reasons.specs.declared.Reason.TheVariants.{BadShare}
