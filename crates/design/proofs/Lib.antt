@@ -22,3 +22,4 @@ pub mod Theorems
 pub mod Bench
 pub mod Bodies
 pub mod Runs
+pub mod Inserting

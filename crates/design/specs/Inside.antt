@@ -4,3 +4,4 @@ pub mod Framing
 pub mod StageLists
 pub mod Lists
 pub mod Held
+pub mod Inserting

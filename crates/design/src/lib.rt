@@ -1,4 +1,4 @@
-// The design file: the head and its limits, reading, and what a file that reads holds.
+// The design file: the head and its limits, reading, and what a file that reads holds; and a list of terms that grows.
 #![tactic(auto)]
 
 ghost use Rattle.std.specs.Prelude.{◌≡◌, ◌^◌, ◌≤◌};
@@ -9,6 +9,7 @@ mod files; // files.rt: a file that reads, its tables and lists
 mod heads; // heads.rt: the head within the limits, and the records that are due
 mod lists; // lists.rt: lists of a stage
 mod reader; // reader.rt: the tests of each record, and the walk over all
+mod term_list; // term_list.rt: a list of terms that grows, in fixed memory
 
 pub use errors::{Fault, ReadError};
 pub use files::DesignFile;
@@ -16,6 +17,7 @@ use finite::power;
 pub use heads::Head;
 pub use lists::Lists;
 pub use reader::{read, read_head};
+pub use term_list::TermList;
 
 // The greatest number of entries of a table.
 pub const GREATEST_POINTS: usize = 1 << Head::GREATEST_WIDTH;

@@ -17,34 +17,23 @@ use Rattle.finite.specs.Tests.{pick}
 use Rattle.finite.specs.Sets.{has}
 use Rattle.finite.proofs.Elements.{has_low, has_odd, has_beyond, ones_top}
 use Rattle.finite.proofs.Testing.{below, pick_true, pick_false}
-use Rattle.direct.specs.Inside.Expanding.{joined, ending, emitted, placed_in, inserted_all}
+use Rattle.direct.specs.Inside.Expanding.{appended, ending, emitted}
+use Rattle.design.specs.Inside.Inserting.{inserted_all}
+use Rattle.design.proofs.Inserting.{inserted_all_append}
 
--- ---- joined lists
+-- ---- appended lists
 
-joined_more : (n : ℕ) (f : ℕ → List ℕ) → joined (n + 1) f ≡ joined n f ++ f n
-unfolding joined
-joined_more n f = rw add-one refl
+appended_more : (n : ℕ) (f : ℕ → List ℕ) → appended (n + 1) f ≡ appended n f ++ f n
+unfolding appended
+appended_more n f = rw add-one refl
 
-pub joined_within : (n j : ℕ) (f : ℕ → List ℕ) → j < n → length (joined j f) + length (f j) ≤ length (joined n f)
-unfolding joined
-joined_within zero j f l = absurd (omega arith)
-joined_within (suc n) j f l =
+pub appended_within : (n j : ℕ) (f : ℕ → List ℕ) → j < n → length (appended j f) + length (f j) ≤ length (appended n f)
+unfolding appended
+appended_within zero j f l = absurd (omega arith)
+appended_within (suc n) j f l =
     below l
-    (λ e. omega (arith, length-append (joined n f) (f n), ap (λ (k : ℕ). length (joined k f)) e, ap (λ (k : ℕ). length (f k)) e))
-    (λ k. omega (arith, length-append (joined n f) (f n), joined_within n j f k))
-
-pub inserted_all_append : (a b l : List ℕ) → inserted_all (a ++ b) l ≡ inserted_all b (inserted_all a l)
-unfolding inserted_all
-inserted_all_append [] b l = refl
-inserted_all_append (t ∷ a) b l = inserted_all_append a b (placed_in t l)
-
-pub inserted_one : (t : ℕ) (l : List ℕ) → inserted_all (t ∷ []) l ≡ placed_in t l
-unfolding inserted_all
-inserted_one t l = refl
-
-pub inserted_none : (l : List ℕ) → inserted_all [] l ≡ l
-unfolding inserted_all
-inserted_none l = refl
+    (λ e. omega (arith, length-append (appended n f) (f n), ap (λ (k : ℕ). length (appended k f)) e, ap (λ (k : ℕ). length (f k)) e))
+    (λ k. omega (arith, length-append (appended n f) (f n), appended_within n j f k))
 
 -- ---- the end
 
@@ -62,7 +51,7 @@ ending_other place c p J e = pick_false (eqb (place J) c) (p ∷ []) [] (ne_eqb 
 abbrev pub through : ℕ → ℕ → (ℕ → ℕ) → ℕ → ℕ → ℕ → ℕ → ℕ → ℕ → List ℕ
 through m s place u c v p J j = emitted m s place u c v (bit_or p (2 ^ (m * j + v))) (bit_or J (2 ^ j))
 
-emitted_variable : (m s : ℕ) (place : ℕ → ℕ) (u c v p J : ℕ) → has u v ≡ true → emitted m s place u c (suc v) p J ≡ joined s (through m s place u c v p J)
+emitted_variable : (m s : ℕ) (place : ℕ → ℕ) (u c v p J : ℕ) → has u v ≡ true → emitted m s place u c (suc v) p J ≡ appended s (through m s place u c v p J)
 unfolding emitted
 emitted_variable m s place u c v p J e = pick_true (has u v) _ _ e
 
@@ -85,10 +74,10 @@ pub emitted_end : (m s : ℕ) (place : ℕ → ℕ) (u c p J : ℕ) → u ≡ 0 
 unfolding emitted
 emitted_end m s place u c p J e = emitted_high m s place u c 0 m p J (omega arith) (omega arith)
 
-joined_congr : (n : ℕ) (f g : ℕ → List ℕ) → ((j : ℕ) → f j ≡ g j) → joined n f ≡ joined n g
-unfolding joined
-joined_congr zero f g h = refl
-joined_congr (suc n) f g h = ap₂ ◌++◌ (joined_congr n f g h) (h n)
+appended_congr : (n : ℕ) (f g : ℕ → List ℕ) → ((j : ℕ) → f j ≡ g j) → appended n f ≡ appended n g
+unfolding appended
+appended_congr zero f g h = refl
+appended_congr (suc n) f g h = ap₂ ◌++◌ (appended_congr n f g h) (h n)
 
 -- sets that are alike below a place give the same below it
 emitted_alike : (m s : ℕ) (place : ℕ → ℕ) (u r c k p J : ℕ) → ((w : ℕ) → w < k → has u w ≡ has r w) → emitted m s place u c k p J ≡ emitted m s place r c k p J
@@ -96,7 +85,7 @@ unfolding emitted
 emitted_alike m s place u r c zero p J h = refl
 emitted_alike m s place u r c (suc k) p J h =
     rw (h k (omega arith)) (ap₂ (λ (x : List ℕ) (y : List ℕ). pick (has r k) x y)
-    (joined_congr s _ _ (λ j. emitted_alike m s place u r c k (bit_or p (2 ^ (m * j + k))) (bit_or J (2 ^ j)) (λ w l. h w (omega arith))))
+    (appended_congr s _ _ (λ j. emitted_alike m s place u r c k (bit_or p (2 ^ (m * j + k))) (bit_or J (2 ^ j)) (λ w l. h w (omega arith))))
     (emitted_alike m s place u r c k p J (λ w l. h w (omega arith))))
 
 -- what share j of variable v gives, where the set r of variables is left
@@ -121,12 +110,12 @@ module _ (m s u v : ℕ) (t : 2 ^ v ≤ u) (h : u < 2 * 2 ^ v) (l : u < 2 ^ m) w
   pub fewer : ones (u - 2 ^ v) < ones u
   fewer = let e : u ≡ 2 ^ v + (u - 2 ^ v) = omega arith in omega (arith, ap ones e ∙ ones_top v (u - 2 ^ v) left_lt)
 
-  pub emitted_each : (place : ℕ → ℕ) (c p J : ℕ) → emitted m s place u c m p J ≡ joined s (onward m s place c (u - 2 ^ v) v p J)
+  pub emitted_each : (place : ℕ → ℕ) (c p J : ℕ) → emitted m s place u c m p J ≡ appended s (onward m s place c (u - 2 ^ v) v p J)
   unfolding onward
   emitted_each place c p J =
       emitted_high m s place u c (suc v) m p J (omega (arith, pow-suc 2 v)) variable_lt
       ∙ emitted_variable m s place u c v p J (ap (λ (x : ℕ). has x v) whole ∙ has_odd v 0 (u - 2 ^ v) left_lt)
-      ∙ joined_congr s _ _ rest
+      ∙ appended_congr s _ _ rest
     where
       rest : (j : ℕ) → emitted m s place u c v (bit_or p (2 ^ (m * j + v))) (bit_or J (2 ^ j)) ≡ emitted m s place (u - 2 ^ v) c m (bit_or p (2 ^ (m * j + v))) (bit_or J (2 ^ j))
       rest j =
@@ -134,9 +123,9 @@ module _ (m s u v : ℕ) (t : 2 ^ v ≤ u) (h : u < 2 * 2 ^ v) (l : u < 2 ^ m) w
           ∙ sym (emitted_high m s place (u - 2 ^ v) c v m _ _ left_lt (omega (arith, variable_lt)))
 
 -- a turn of a loop that puts each list f j into its place
-pub joined_turn : (f : ℕ → List ℕ) (j : ℕ) (l₀ : List ℕ) → inserted_all (f j) (inserted_all (joined j f) l₀) ≡ inserted_all (joined (j + 1) f) l₀
-joined_turn f j l₀ = sym (inserted_all_append (joined j f) (f j) l₀) ∙ ap (λ (x : List ℕ). inserted_all x l₀) (sym (joined_more j f))
+pub appended_turn : (f : ℕ → List ℕ) (j : ℕ) (l₀ : List ℕ) → inserted_all (f j) (inserted_all (appended j f) l₀) ≡ inserted_all (appended (j + 1) f) l₀
+appended_turn f j l₀ = sym (inserted_all_append (appended j f) (f j) l₀) ∙ ap (λ (x : List ℕ). inserted_all x l₀) (sym (appended_more j f))
 
-pub joined_zero : (f : ℕ → List ℕ) (l : List ℕ) → l ≡ inserted_all (joined 0 f) l
-unfolding joined inserted_all
-joined_zero f l = refl
+pub appended_zero : (f : ℕ → List ℕ) (l : List ℕ) → l ≡ inserted_all (appended 0 f) l
+unfolding appended inserted_all
+appended_zero f l = refl

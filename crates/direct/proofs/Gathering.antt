@@ -1,96 +1,33 @@
 -- Products that are put into their places one after another, as the expansion of the terms brings them, make the list of the definition: each comes once, and
 -- a rising list with a term more in its place is the rising list of the larger set.
 use mathlib.Core.Path.{◌≡◌, refl, sym, ap, ◌∙◌}
-use mathlib.Core.Logic.{◌⊎◌, inl, inr, ⊎_elim}
-use mathlib.Core.Bool.{Bool, true, false, ◌&&◌, ◌||◌, or_comm, or_assoc, and-or_distrib_left}
-use mathlib.Core.List.{List, [], ◌∷◌}
+use mathlib.Core.Logic.{◌⊎◌, inl, inr}
+use mathlib.Core.Bool.{Bool, true, false, ◌&&◌, ◌||◌}
+use mathlib.Core.List.{List, []}
 use Prim.Native.Nat.{ℕ, zero, suc, ◌+◌, ◌*◌, ◌^◌, ◌≤◌, ◌<◌}
-use native.Mathlib.Nat.{zero-add}
-use native.Mathlib.Numerals.{one-add}
 use native.Mathlib.Omega.{arith}
 use lib.Pow.{pow_pos}
-use lib.Dec.{eqb, ltb}
+use lib.Dec.{eqb}
 use lib.Bits.{bit_or}
 use lib.ListN.{length, get_or}
-use borrow.Author.Tests.{eqb-true, eq-eqb, lt-ltb}
+use borrow.Author.Tests.{eqb-true, eq-eqb}
 use Rattle.finite.specs.Tests.{pick, any}
 use Rattle.finite.specs.Sets.{has}
-use Rattle.std.proofs.lemmas.Bool.{cases_Bool, false_from_ne_true, and_from, and_parts, and_right, or_from, or_left, or_right}
+use Rattle.std.proofs.lemmas.Bool.{cases_Bool, false_from_ne_true, and_from, and_parts, or_from}
 use Rattle.finite.proofs.Testing.{clash, pick_true, pick_false, or_false_right, any_at, any_some}
 use Rattle.finite.proofs.Elements.{has_none}
-use Rattle.anf.specs.Terms.{before, passing}
-use Rattle.anf.proofs.Order.{before_total, First, Rising, first_trans, member}
-use Rattle.anf.proofs.Terms.{unique_members}
-use Rattle.anf.proofs.PassingLists.{passing_rising, passing_member, passing_congr, passing_none}
+use Rattle.anf.specs.Terms.{passing}
+use Rattle.anf.proofs.PassingLists.{passing_congr, passing_none}
 use Rattle.design.specs.Limits.{greatest_terms, broken}
 use Rattle.design.proofs.Limits.{bounds}
 use Rattle.direct.specs.Direct.{is_product, chosen, stands, direct_list}
-use Rattle.direct.specs.Inside.Expanding.{joined, ending, emitted, placed_in, inserted_all, brought}
+use Rattle.direct.specs.Inside.Expanding.{appended, ending, emitted, brought}
+use Rattle.design.specs.Inside.Inserting.{inserted_all}
 use Rattle.direct.proofs.Products.{product_term}
 use Rattle.direct.proofs.Formed.{list_size}
-use Rattle.direct.proofs.Emitting.{joined_within, inserted_all_append, inserted_one, inserted_none, ending_here, ending_other, through}
+use Rattle.direct.proofs.Emitting.{appended_within, ending_here, ending_other, through}
+use Rattle.design.proofs.Inserting.{inserted_all_append, inserted_one, inserted_none, inserted_passing, inserted_all_length}
 use Rattle.direct.proofs.Choosing.{chosen_none, chosen_with, extends, extends_none, extends_all, extends_skip, extends_each, extends_apart, Clean, clean_with, with_lt}
-
--- ---- a term in its place
-
--- t stands before x, the first of a list, or behind it
-placed_in_here : (t x : ℕ) (l : List ℕ) → before t x ≡ true → placed_in t (x ∷ l) ≡ t ∷ x ∷ l
-placed_in_here t x l e = rw e refl
-
-placed_in_behind : (t x : ℕ) (l : List ℕ) → before t x ≡ false → placed_in t (x ∷ l) ≡ x ∷ placed_in t l
-placed_in_behind t x l e = rw (e, one-add) refl
-
-first_placed : (x t : ℕ) (l : List ℕ) → before x t ≡ true → First x l → First x (placed_in t l)
-first_placed x t [] h f = (h, tt)
-first_placed x t (u ∷ l) h f = at (first_placed x t l h f.1) (cases_Bool (before t u))
-  where
-    at : First x (placed_in t l) → (before t u ≡ true) ⊎ (before t u ≡ false) → First x (placed_in t (u ∷ l))
-    at ih (inl e) = rw (placed_in_here t u l e) (h, f)
-    at ih (inr e) = rw (placed_in_behind t u l e) (f.0, ih)
-
--- a rising list with t in its place rises, where t is none of its terms
-rising_placed : (n t : ℕ) (l : List ℕ) → t < n → Rising n l → member t l ≡ false → Rising n (placed_in t l)
-rising_placed n t [] h r m = (h, tt, tt)
-rising_placed n t (u ∷ l) h r m = at (rising_placed n t l h r.2) (cases_Bool (before t u))
-  where
-    behind : before t u ≡ false → (before u t ≡ true) ⊎ (before u t ≡ false) → before u t ≡ true
-    behind e (inl q) = q
-    behind e (inr q) = absurd (clash (or_left (eqb t u) (member t l) (eq-eqb t u (before_total t u e q))) m)
-
-    at : (member t l ≡ false → Rising n (placed_in t l)) → (before t u ≡ true) ⊎ (before t u ≡ false) → Rising n (placed_in t (u ∷ l))
-    at ih (inl e) = rw (placed_in_here t u l e) (h, (e, first_trans t u l e r.1), r)
-    at ih (inr e) =
-        let none : member t l ≡ false = false_from_ne_true (member t l) (λ q. clash (or_right (eqb t u) (member t l) q) m) in
-        rw (placed_in_behind t u l e) (r.0, first_placed u t l (behind e (cases_Bool (before u t))) r.1, ih none)
-
--- its terms are t and those of the list
-member_placed : (u t : ℕ) (l : List ℕ) → member u (placed_in t l) ≡ (member u l || eqb u t)
-member_placed u t [] = or_false_right (eqb u t) false refl
-member_placed u t (x ∷ l) = at (member_placed u t l) (cases_Bool (before t x))
-  where
-    at : member u (placed_in t l) ≡ (member u l || eqb u t) → (before t x ≡ true) ⊎ (before t x ≡ false)
-        → member u (placed_in t (x ∷ l)) ≡ (member u (x ∷ l) || eqb u t)
-    at ih (inl e) = ap (member u) (placed_in_here t x l e) ∙ or_comm (eqb u t) (member u (x ∷ l))
-    at ih (inr e) = ap (member u) (placed_in_behind t x l e) ∙ ap (λ (b : Bool). eqb u x || b) ih ∙ sym (or_assoc (eqb u x) (member u l) (eqb u t))
-
--- the rising list of a set with t too
-pub inserted_passing : (n t : ℕ) (P : ℕ → Bool) → t < n → P t ≡ false → placed_in t (passing n P) ≡ passing n (λ q. P q || eqb q t)
-inserted_passing n t P l f =
-    unique_members n (placed_in t (passing n P)) (passing n Q) (rising_placed n t (passing n P) l (passing_rising n P) none) (passing_rising n Q)
-    (λ u. member_placed u t (passing n P) ∙ ap (λ (b : Bool). b || eqb u t) (passing_member n P u) ∙ with_t u ∙ sym (passing_member n Q u))
-  where
-    Q : ℕ → Bool
-    Q q = P q || eqb q t
-
-    none : member t (passing n P) ≡ false
-    none = passing_member n P t ∙ and_right (ltb t n) (P t) f
-
-    within : (u : ℕ) → (eqb u t ≡ true) ⊎ (eqb u t ≡ false) → eqb u t ≡ (ltb u n && eqb u t)
-    within u (inl e) = e ∙ sym (and_from _ _ (lt-ltb u n (omega (arith, eqb-true u t e))) e)
-    within u (inr e) = e ∙ sym (and_right (ltb u n) (eqb u t) e)
-
-    with_t : (u : ℕ) → ((ltb u n && P u) || eqb u t) ≡ (ltb u n && (P u || eqb u t))
-    with_t u = ap (λ (b : Bool). (ltb u n && P u) || b) (within u (cases_Bool (eqb u t))) ∙ sym (and-or_distrib_left (ltb u n) (P u) (eqb u t))
 
 -- ---- the products of a term
 
@@ -140,11 +77,11 @@ module _ (m s : ℕ) (place : ℕ → ℕ) (u c : ℕ) (some : 0 < m) where
     -- the products of the first k shares
     added_shares : has u v ≡ true → (P : ℕ → Bool) → ((q : ℕ) → q < N → extends m s u (suc v) p q ≡ true → P q ≡ false)
         → (k : ℕ) → k ≤ s
-        → inserted_all (joined k (through m s place u c v p (chosen m s p))) (passing N P) ≡ passing N (λ q. P q || (any k (λ j. extends m s u v (p_with j) q) && goes q))
-    unfolding joined any
+        → inserted_all (appended k (through m s place u c v p (chosen m s p))) (passing N P) ≡ passing N (λ q. P q || (any k (λ j. extends m s u v (p_with j) q) && goes q))
+    unfolding appended any
     added_shares t P apart zero h = inserted_none (passing N P) ∙ passing_congr N _ _ (λ q l. sym (or_false_right (P q) false refl))
     added_shares t P apart (suc k) h =
-        inserted_all_append (joined k (through m s place u c v p (chosen m s p))) (through m s place u c v p (chosen m s p) k) (passing N P)
+        inserted_all_append (appended k (through m s place u c v p (chosen m s p))) (through m s place u c v p (chosen m s p) k) (passing N P)
         ∙ ap (inserted_all (through m s place u c v p (chosen m s p) k)) (added_shares t P apart k (omega arith))
         ∙ ap (λ (J : ℕ). inserted_all (emitted m s place u c v (p_with k) J) (passing N before_k)) (sym (chosen_with m s p k v h lv))
         ∙ onward (p_with k) (with_lt m s u v p lv clean k h lp) (clean_with m s u v p lv clean k h) before_k fresh
@@ -172,7 +109,7 @@ module _ (m s : ℕ) (place : ℕ → ℕ) (u c : ℕ) (some : 0 < m) where
     added_more P apart = at (cases_Bool (has u v))
       where
         at : (has u v ≡ true) ⊎ (has u v ≡ false)
-            → inserted_all (pick (has u v) (joined s (through m s place u c v p (chosen m s p))) (emitted m s place u c v p (chosen m s p))) (passing N P)
+            → inserted_all (pick (has u v) (appended s (through m s place u c v p (chosen m s p))) (emitted m s place u c v p (chosen m s p))) (passing N P)
             ≡ passing N (λ q. P q || (extends m s u (suc v) p q && goes q))
         at (inl t) =
             ap (λ (ts : List ℕ). inserted_all ts (passing N P)) (pick_true (has u v) _ _ t)
@@ -196,11 +133,11 @@ module _ (m s : ℕ) (place : ℕ → ℕ) (some : 0 < m) (words : ℕ → ℕ) 
   abbrev so_far : ℕ → ℕ → Bool
   so_far n q = any n (λ u. is_product m s u q && has (words u) b) && eqb (place (chosen m s q)) c
 
-  gathered_below : (n : ℕ) → n ≤ 2 ^ m → inserted_all (joined n brings) [] ≡ passing (2 ^ (m * s)) (so_far n)
-  unfolding joined any
+  gathered_below : (n : ℕ) → n ≤ 2 ^ m → inserted_all (appended n brings) [] ≡ passing (2 ^ (m * s)) (so_far n)
+  unfolding appended any
   gathered_below zero h = inserted_none [] ∙ sym (passing_none (2 ^ (m * s)))
   gathered_below (suc n) h =
-      inserted_all_append (joined n brings) (brings n) []
+      inserted_all_append (appended n brings) (brings n) []
       ∙ ap (inserted_all (brings n)) (gathered_below n (omega arith))
       ∙ at (cases_Bool (has (words n) b))
     where
@@ -245,22 +182,9 @@ module _ (m s : ℕ) (place : ℕ → ℕ) (some : 0 < m) (words : ℕ → ℕ) 
           no false true = refl
           no false false = refl
 
-  pub gathered : inserted_all (joined (2 ^ m) brings) [] ≡ direct_list m s place words c b
+  pub gathered : inserted_all (appended (2 ^ m) brings) [] ≡ direct_list m s place words c b
   unfolding direct_list stands
   gathered = gathered_below (2 ^ m) (omega arith)
-
--- ---- how many
-
-inserted_length : (t : ℕ) (l : List ℕ) → length (placed_in t l) ≡ suc (length l)
-inserted_length t [] = refl
-inserted_length t (x ∷ l) =
-    let ih = inserted_length t l in
-    ⊎_elim (λ e. ap length (placed_in_here t x l e)) (λ e. ap length (placed_in_behind t x l e) ∙ ap suc ih) (cases_Bool (before t x))
-
-pub inserted_all_length : (ts l : List ℕ) → length (inserted_all ts l) ≡ length ts + length l
-unfolding inserted_all
-inserted_all_length [] l = sym (zero-add (length l))
-inserted_all_length (t ∷ ts) l = inserted_all_length ts (placed_in t l) ∙ omega (arith, inserted_length t l)
 
 -- ---- the loop over the terms u, where w are the coefficient words
 
@@ -268,18 +192,18 @@ unfoldable pub bringing : ℕ → ℕ → (ℕ → ℕ) → ℕ → ℕ → List
 bringing m s place c b w u = brought m s place c b (get_or w u 0) u
 
 module _ (m s : ℕ) (place : ℕ → ℕ) (limits : broken m s 1 ≡ false) (c b : ℕ) (w : List ℕ) where
-  pub gathered_all : inserted_all (joined (2 ^ m) (bringing m s place c b w)) [] ≡ direct_list m s place (λ u. get_or w u 0) c b
+  pub gathered_all : inserted_all (appended (2 ^ m) (bringing m s place c b w)) [] ≡ direct_list m s place (λ u. get_or w u 0) c b
   unfolding bringing
   gathered_all = gathered m s place (omega (arith, (bounds m s 1 limits).m_low)) (λ u. get_or w u 0) c b
 
   -- there is room for what each term brings
-  pub bringing_fits : (u : ℕ) → u < 2 ^ m → length (inserted_all (joined u (bringing m s place c b w)) []) + length (bringing m s place c b w u) ≤ greatest_terms
+  pub bringing_fits : (u : ℕ) → u < 2 ^ m → length (inserted_all (appended u (bringing m s place c b w)) []) + length (bringing m s place c b w u) ≤ greatest_terms
   bringing_fits u l =
       omega (
         arith,
-        inserted_all_length (joined u (bringing m s place c b w)) [],
-        joined_within (2 ^ m) u (bringing m s place c b w) l,
-        inserted_all_length (joined (2 ^ m) (bringing m s place c b w)) [],
+        inserted_all_length (appended u (bringing m s place c b w)) [],
+        appended_within (2 ^ m) u (bringing m s place c b w) l,
+        inserted_all_length (appended (2 ^ m) (bringing m s place c b w)) [],
         ap length gathered_all,
         list_size m s place (λ v. get_or w v 0) c b limits,
       )

@@ -6,7 +6,6 @@ pub mod Placement
 pub mod Stage
 pub mod Formed
 pub mod Shareable
-pub mod Inserting
 pub mod Emitting
 pub mod Choosing
 pub mod Gathering

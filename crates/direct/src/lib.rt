@@ -1,18 +1,16 @@
 // The direct sharing: the placement, the expansion of terms into products, and the list of one bit of one component.
 #![tactic(auto)]
 
-mod list; // list.rt: a list of terms that grows in fixed memory
-
 ghost use Rattle.std.specs.Prelude.{◌≡◌, false, MatchResult, ◌+◌, ◌-◌, ◌^◌, ◌<◌, ◌≤◌, length, get_or};
 ghost use Rattle.std.specs.Int.Bits.{bit_or};
 ghost use Rattle.finite.specs.Sets.{has as has_element};
 ghost use Rattle.design.specs.Limits.{greatest_shares, greatest_terms, broken};
+ghost use Rattle.design.specs.Inside.Inserting.{inserted_all};
 ghost use Rattle.direct.specs.Direct.{is_outside, loads, published, direct_list};
-ghost use Rattle.direct.specs.Inside.Expanding.{emitted, inserted_all};
+ghost use Rattle.direct.specs.Inside.Expanding.{emitted};
 
-use design::Head;
+use design::{Head, TermList};
 use finite::power;
-pub use list::TermList;
 use reasons::Reason;
 
 // The published placements for three, four and five shares.

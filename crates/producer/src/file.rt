@@ -1,7 +1,8 @@
 // The file of a direct sharing: what it is made of, its length, and writing it.
 ghost use Rattle.std.specs.Prelude.{◌≡◌, ◌+◌, ◌^◌, ◌≤◌, length, get_or};
 
-use direct::{Rule, TermList};
+use design::TermList;
+use direct::Rule;
 use finite::power;
 use records::{Writer, record_size};
 

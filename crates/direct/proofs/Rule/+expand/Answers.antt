@@ -1,6 +1,6 @@
 -- Where no variable is left, the product is put into its place; else one share after the other is chosen for the highest variable, and what is left of the
 -- term has fewer. The laws are those of Stepping.
-use Rattle.direct.proofs.Emitting.{joined_zero}
+use Rattle.direct.proofs.Emitting.{appended_zero}
 use Rattle.direct.proofs.Stepping.{room_here, goes_here, goes_elsewhere, fewer_left, left_within, row_fits, place_fits, place_low, share_low}
 use Rattle.direct.proofs.Stepping.{room_share, shares_more, shares_all}
 use Rattle.direct.proofs.Rule.+expand.Goals as goal
@@ -15,7 +15,7 @@ pub returns-else-component-to : goal.returns-else-component-to
 returns-else-component-to t c = search goes_elsewhere
 
 pub loop-j-init : goal.loop-j-init
-loop-j-init t c = joined_zero _ _
+loop-j-init t c = appended_zero _ _
 
 pub overflow_mul-self : goal.overflow_mul-self
 overflow_mul-self t c = search row_fits

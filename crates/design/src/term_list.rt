@@ -2,10 +2,10 @@
 ghost use Rattle.std.specs.Prelude.{ℕ, ◌≡◌, ◌<◌, ◌≤◌, List, [], length, take, position};
 ghost use Rattle.anf.specs.Terms.{before};
 ghost use Rattle.design.specs.Limits.{greatest_terms};
-ghost use Rattle.direct.specs.Inside.Expanding.{placed_in};
+ghost use Rattle.design.specs.Inside.Inserting.{inserted};
 
+use crate::GREATEST_TERMS;
 use anf::stands_before;
-use design::GREATEST_TERMS;
 use std::marker::Model;
 
 // Where the first term is that the term t stands before.
@@ -68,7 +68,7 @@ impl TermList {
     /// Puts the term t into its place.
     pub fn insert(&mut self, t: u32)
         requires { length self.old < greatest_terms }
-        ensures { self.new ≡ placed_in t self.old }
+        ensures { self.new ≡ inserted t self.old }
     {
         let at = first_behind(&self.terms[..self.len], t).unwrap_or(self.len);
         self.terms[self.len] = t;
