@@ -175,16 +175,15 @@ xor_all_below (x ∷ xs) = ap (bit_xor x) (xor_all_below xs) ∙ sym (xor_below_
 module _ (n s : ℕ) (f : ℕ → ℕ) (F : ℕ → List ℕ → ℕ) (some : 1 ≤ s) (ignores : (j : ℕ) → j < s → (e : ℕ) × (e < s) × IgnoresPoint n s e (F j))
     (sums : (xs : List ℕ) → Points n s xs → xor_below s (λ j. F j xs) ≡ f (xor_below s (λ j. get_or xs j 0))) where
   -- no coefficient at a set of s or more variables
-  pub shares_bound : (u : ℕ) → u < 2 ^ n → s ≤ ones u → subset_sum n f u ≢ 0 → ⊥
-  shares_bound u h l c =
+  pub shares_bound : (u : ℕ) → u < 2 ^ n → s ≤ ones u → subset_sum n f u ≡ 0
+  shares_bound u h l =
       let e : suc (s - 1) ≡ s = omega arith in
       let w = partition n (s - 1) u h (omega arith) in
       let size : length w.0 ≡ s = w.1 ∙ e in
-      c
-      (ap (subset_sum n f) (sym w.3)
+      ap (subset_sum n f) (sym w.3)
       ∙ blocks_bound n w.0 f F w.2
       (rw size (λ j k. let e = ignores j k in (e.0, e.1, λ xs p. e.2 xs (tuple_points n s xs p))))
-      (rw size (λ xs p. ap f (xor_all_below xs ∙ ap (λ (k : ℕ). xor_below k (λ j. get_or xs j 0)) p.0) ∙ sym (sums xs (tuple_points n s xs p)))))
+      (rw size (λ xs p. ap f (xor_all_below xs ∙ ap (λ (k : ℕ). xor_below k (λ j. get_or xs j 0)) p.0) ∙ sym (sums xs (tuple_points n s xs p))))
 
 -- ---- the degree of a table
 
@@ -238,4 +237,4 @@ module _ (n s : ℕ) (f : ℕ → ℕ) (F : ℕ → List ℕ → ℕ) (some : 1 
   pub degree_bound : s ≤ degree n f → ⊥
   degree_bound l =
       let w = degree_some n f (omega arith) in
-      shares_bound n s f F some ignores sums w.0 w.1 (omega (arith, w.3)) w.2
+      w.2 (shares_bound n s f F some ignores sums w.0 w.1 (omega (arith, w.3)))

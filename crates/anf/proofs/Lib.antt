@@ -7,6 +7,7 @@ pub mod Terms
 pub mod PassingLists
 pub mod Degree
 pub mod TransformAnswer
+pub mod Explained
 pub mod Tables
 pub mod WordDegree
 pub mod Bench

@@ -4,5 +4,6 @@ pub mod Terms
 pub mod Tables
 pub mod Points
 pub mod Transform
+pub mod Explained
 pub mod Bench
 pub mod Inside

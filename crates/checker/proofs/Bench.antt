@@ -16,9 +16,9 @@ use Rattle.sharing.specs.Sharing.{share, sum, setting, put_share, packed}
 use Rattle.sharing.specs.Stages.{output, correct, depends_on, depends_on_all, non_complete, sharings_to, uniform}
 use Rattle.sharing.specs.Chain.{chained, handed, reads_alike, read_meetings}
 use Rattle.threshold.specs.Running.{unpacked, share_fits, shares_fit, running_on, running}
-use Rattle.checker.specs.Verdict.{chain_is_box, stages_faults, judged, judged_reading, verdict}
+use Rattle.checker.specs.Verdict.{chain_is_box, stages_faults, judged, judged_reading, verdict, workspace_left, workspace_after}
 use Rattle.checker.specs.Trials.{both_passes, trials_of, trials, judging, forecast}
-use Rattle.checker.specs.Bench.{rows, forecasts, meeting_rows, runs}
+use Rattle.checker.specs.Bench.{rows, workspace_rows, forecasts, meeting_rows, runs}
 
 -- the definitions that computing opens: of a file that is written,
 unfoldable writing : ℕ
@@ -42,6 +42,10 @@ sending = 0
 pub bench_verdicts : map (λ r. judging r.file r.workspace) rows ≡ map (λ r. r.answer) rows
 unfolding deciding
 bench_verdicts = refl
+
+pub bench_workspaces : map (λ r. workspace_after r.file r.before) workspace_rows ≡ map (λ r. r.after) workspace_rows
+unfolding deciding workspace_left workspace_after
+bench_workspaces = refl
 
 pub bench_forecasts : map (λ r. forecast r.file) forecasts ≡ map (λ r. r.answer) forecasts
 unfolding computing forecast

@@ -11,6 +11,9 @@ pub mod JudgingStages
 pub mod JudgingDesign
 pub mod Forecasting
 pub mod Exactly
+pub mod Explaining
+pub mod Leaving
 pub mod Assurance
 pub mod Trials
+pub mod Reached
 pub mod Bench

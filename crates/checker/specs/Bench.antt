@@ -65,6 +65,42 @@ rows =
     row [] 1 (answer 1 0 0) 0 ∷
     []
 
+-- ---- the workspace, before and afterwards
+
+pub record WorkspaceRow : Type 0 where
+  pub file : List ℕ
+  pub before : List ℕ
+  pub after : List ℕ
+
+abbrev leaves : List ℕ → List ℕ → List ℕ → WorkspaceRow
+leaves f before after = record { file = f; before = before; after = after }
+
+-- two bits in three shares, which ask for eight bytes
+abbrev two_bits : List ℕ
+two_bits = encode (record {
+  m = 2;
+  s = 3;
+  k = 1;
+  box = 0 ∷ 1 ∷ 2 ∷ 3 ∷ [];
+  stages =
+      record { table = 0 ∷ 1 ∷ 2 ∷ 3 ∷ []; lists = (1 ∷ []) ∷ (2 ∷ []) ∷ (4 ∷ []) ∷ (8 ∷ []) ∷ (16 ∷ []) ∷ (32 ∷ []) ∷ [] } ∷ [];
+})
+
+abbrev pub workspace_rows : List WorkspaceRow
+workspace_rows =
+    -- D is accepted: its one byte is zero, and the byte behind it as it was
+    leaves file_d (255 ∷ 170 ∷ []) (0 ∷ 170 ∷ []) ∷
+    -- with 10, 12, 13 and 14 too
+    leaves (box_d 1 0) (255 ∷ 170 ∷ []) (0 ∷ 170 ∷ []) ∷
+    leaves (lists_d (2 ∷ []) (4 ∷ []) []) (255 ∷ 170 ∷ []) (0 ∷ 170 ∷ []) ∷
+    leaves (lists_d (1 ∷ 2 ∷ 4 ∷ []) [] []) (255 ∷ 170 ∷ []) (0 ∷ 170 ∷ []) ∷
+    leaves (lists_d (2 ∷ 4 ∷ []) (1 ∷ []) []) (255 ∷ 170 ∷ []) (0 ∷ 170 ∷ []) ∷
+    -- with 9, 8 and where the file does not read the workspace stays
+    leaves two_bits (255 ∷ 170 ∷ 1 ∷ []) (255 ∷ 170 ∷ 1 ∷ []) ∷
+    leaves (box_d 0 0) (255 ∷ 170 ∷ []) (255 ∷ 170 ∷ []) ∷
+    leaves [] (255 ∷ 170 ∷ []) (255 ∷ 170 ∷ []) ∷
+    []
+
 -- ---- the forecast
 
 pub record ForecastRow : Type 0 where

@@ -17,7 +17,7 @@ use Rattle.records.specs.Records.{a_record, end_record}
 use Rattle.records.proofs.ListRecords.{two_records_length}
 use Rattle.records.specs.Design.{Design, stage_of, list_of}
 use Rattle.records.specs.Encode.{head_body, stage_bytes, encode}
-use Rattle.design.specs.Inside.Described.{Describes}
+use Rattle.design.specs.Layout.{Describes}
 use Rattle.design.specs.Reading.{number_of, meaning}
 use Rattle.design.specs.Layout.{Layout}
 use Rattle.records.specs.Inside.Terms.{terms}

@@ -17,7 +17,8 @@ use Rattle.finite.proofs.Testing.{tabulate_at}
 use Rattle.design.specs.Limits.{greatest_terms}
 use Rattle.records.specs.Bytes.{u16_at}
 use Rattle.records.specs.Design.{Design, no_stage, stage_of, list_of}
-use Rattle.design.specs.Inside.Described.{Limits, Describes}
+use Rattle.design.specs.Inside.Described.{Limits}
+use Rattle.design.specs.Layout.{Describes}
 use Rattle.design.specs.Reading.{last_of, number_of, kind_due, size_due, length_due, fault_at, Reading, refused, means, reading, walk, place, head_of, meaning, stage_at, table_at, list_at}
 use Rattle.design.specs.Limits.{Head}
 use Rattle.design.specs.Layout.{Layout}

@@ -11,7 +11,7 @@ use Rattle.records.specs.Design.{Design}
 use Rattle.design.specs.WellFormed.{WellFormed}
 use Rattle.design.specs.Reading.{Reading, refused, means, reading, meaning, head_of, place, last_of}
 use Rattle.design.specs.Layout.{no_starts, refused_layout, read_layout, layout_of_reading, layout_of, starts_to, start_of}
-use Rattle.design.specs.Inside.Described.{Describes}
+use Rattle.design.specs.Layout.{Describes}
 use Rattle.design.specs.Limits.{Head}
 use Rattle.design.specs.Layout.{Layout}
 use Rattle.design.specs.Heads.{design_by}

@@ -7,6 +7,7 @@ pub mod Walking
 pub mod HeadAlone
 pub mod Reading
 pub mod Reasons
+pub mod Explained
 pub mod FileRecords
 pub mod Flat
 pub mod Meaning

@@ -18,7 +18,7 @@ use Rattle.records.specs.Bytes.{byte, u16_at, u32_at, term_bytes, Bytes}
 use Rattle.records.specs.Design.{Design, stage_of, list_of}
 use Rattle.std.specs.List.{concat}
 use Rattle.records.specs.Records.{a_record}
-use Rattle.design.specs.Inside.Described.{Describes}
+use Rattle.design.specs.Layout.{Describes}
 use Rattle.design.specs.Reading.{last_of, number_of, kind_due, size_due, length_due, means, reading, place, head_of, meaning, stage_at, table_at, list_at}
 use Rattle.design.specs.Layout.{Layout}
 use Rattle.design.proofs.Flat.{head_for, stage_body, body_of, record_of, flat}

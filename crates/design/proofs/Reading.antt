@@ -14,7 +14,7 @@ use Rattle.finite.specs.Tests.{pick, tabulate}
 use Rattle.finite.proofs.Testing.{pick_true, pick_false, pick_number, tabulate_more}
 use Rattle.records.specs.Bytes.{byte, u16_at}
 use Rattle.design.specs.Layout.{refused_head, head_read, no_starts, start_of, starts_to, refused_layout, layout_of}
-use Rattle.design.specs.Inside.Described.{Describes}
+use Rattle.design.specs.Layout.{Describes}
 use Rattle.design.specs.Limits.{greatest_records, broken, checked}
 use Rattle.design.specs.Reading.{last_of, fault_at, head_fault, refused, means, reading, walk, place, head_of, meaning}
 use Rattle.design.specs.Inside.Framing.{frame_fault}

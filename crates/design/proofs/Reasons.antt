@@ -4,7 +4,7 @@ use Prim.Native.Nat.{ℕ, zero, suc, ◌+◌, ◌*◌, ◌-◌, ◌/◌, ◌%◌
 use mathlib.Core.Path.{◌≡◌, refl, sym, ap, ◌∙◌, subst}
 use mathlib.Core.List.{List, ◌∷◌}
 use mathlib.Core.Bool.{Bool, true, false, ◌||◌, true≢false, not}
-use mathlib.Core.Logic.{⊎_elim, ◌≢◌}
+use mathlib.Core.Logic.{⊎_elim}
 use native.Mathlib.Omega.{arith}
 use borrow.Author.Tests.{eqb-false, eqb-true, ltb-true, ltb-false, eq-eqb, lt-ltb, ne_eqb, not-false, not-true, le-leb}
 use lib.ListN.{length}
@@ -21,9 +21,8 @@ use Rattle.design.specs.Limits.{greatest_terms, broken, Head}
 use Rattle.records.specs.Bytes.{u16_at}
 use Rattle.design.specs.Reading.{refused, means}
 use Rattle.design.specs.Reading.{last_of, head_of, kind_due, size_due, length_due, entry_fits, term_fits, previous, fault_at, meaning, place, walk, reading, body_faults}
-use Rattle.design.specs.Refused.{WithinLimits, LengthFits, TermFits, RecordStands, RecordFits, FitBefore, Reached, term_at, kind_at}
+use Rattle.design.specs.Refused.{LengthFits, TermFits, RecordStands, RecordFits, FitBefore, Reached, term_at, kind_at}
 use Rattle.design.specs.Refused.{RefusedFor, head_cut, kind_wrong, length_wrong, body_cut, limit_broken, entry_high, term_wrong, bytes_follow}
-use Rattle.design.proofs.Limits.{bounds, unbroken}
 use Rattle.design.proofs.Records.{body_fault, Framed, body_1, body_2, body_3, body_none, fault_framed, previous_more, entry_below, entry_not, body_4}
 use Rattle.design.proofs.Meaning.{list_size}
 use Rattle.design.proofs.Walking.{place_next}
@@ -31,13 +30,13 @@ use Rattle.design.proofs.Walking.{place_next}
 -- ---- the tests, as propositions
 
 -- record 0 is the head; every other is a table, a list or the end
-data Kind (i : ℕ) : ℕ → Type 0 where
+pub data Kind (i : ℕ) : ℕ → Type 0 where
   is_head : i ≡ 0 → Kind i 1
   is_table : Kind i 2
   is_list : Kind i 3
   is_end : Kind i 4
 
-kind_cases : (h : Head) (i : ℕ) → Kind i (kind_due h i)
+pub kind_cases : (h : Head) (i : ℕ) → Kind i (kind_due h i)
 unfolding kind_due
 kind_cases h i = go (eqb i 0) refl (eqb i 1) (eqb i (last_of h)) (eqb ((i - 2) % (1 + h.m * h.s)) 0)
   where
@@ -49,7 +48,7 @@ kind_cases h i = go (eqb i 0) refl (eqb i 1) (eqb i (last_of h)) (eqb ((i - 2) %
     go false e false false false = is_list
 
 -- the length that is due
-length_fits : (h : Head) (kind n : ℕ) → length_due kind (size_due h kind) n ≡ true → LengthFits h kind n
+pub length_fits : (h : Head) (kind n : ℕ) → length_due kind (size_due h kind) n ≡ true → LengthFits h kind n
 unfolding length_due size_due
 length_fits h kind n e = record {
   of_head = λ k. eqb-true n 3 (rw k at e);
@@ -58,38 +57,19 @@ length_fits h kind n e = record {
   of_end = λ k. eqb-true n 0 (rw k at e);
 }
 
-length_not : (h : Head) (i kind n : ℕ) → Kind i kind → length_due kind (size_due h kind) n ≡ false → LengthFits h kind n → ⊥
+pub length_not : (h : Head) (i kind n : ℕ) → Kind i kind → length_due kind (size_due h kind) n ≡ false → LengthFits h kind n → ⊥
 unfolding length_due size_due
 length_not h i kind n (is_head z) e w = clash (eq-eqb n 3 (w.of_head refl)) e
 length_not h i kind n is_table e w = clash (eq-eqb n (2 ^ h.m) (w.of_table refl)) e
 length_not h i kind n is_list e w = let q = w.of_list refl in clash (and_from _ _ (eq-eqb (n % 4) 0 q.0) (le-leb n (4 * greatest_terms) q.1)) e
 length_not h i kind n is_end e w = clash (eq-eqb n 0 (w.of_end refl)) e
 
--- the limits
-within : (h : Head) → broken h.m h.s h.k ≡ false → WithinLimits h
-within h e =
-    let b = bounds h.m h.s h.k e in
-    record {
-      least_m = b.m_low;
-      greatest_m = b.m_high;
-      least_s = b.s_low;
-      greatest_s = b.s_high;
-      greatest_bits = b.bits;
-      least_k = b.k_low;
-      greatest_k = b.k_high;
-    }
-
-beyond : (h : Head) → broken h.m h.s h.k ≡ true → WithinLimits h → ⊥
-beyond h e w =
-    clash e
-    (unbroken h.m h.s h.k w.least_m w.greatest_m w.least_s w.greatest_s w.greatest_bits w.least_k w.greatest_k)
-
 -- term j of record i
 module _ (f : List ℕ) (i : ℕ) where
   abbrev fits : ℕ → Bool
   fits = term_fits f (place f i + 4) (2 ^ ((head_of f).m * (head_of f).s))
 
-  term_fits_lem : (j : ℕ) → fits j ≡ true → TermFits f i j
+  pub term_fits_lem : (j : ℕ) → fits j ≡ true → TermFits f i j
   unfolding term_fits
   term_fits_lem j e = record {
     below = ltb-true _ _ (and_parts (eqb j 0 || before (previous f (place f i + 4) j) (term_at f i j)) _ e).1;
@@ -103,7 +83,7 @@ module _ (f : List ℕ) (i : ℕ) where
       or_second true b p q = absurd (true≢false p)
       or_second false b p q = q
 
-  term_not : (j : ℕ) → fits j ≡ false → TermFits f i j → ⊥
+  pub term_not : (j : ℕ) → fits j ≡ false → TermFits f i j → ⊥
   unfolding term_fits previous
   term_not j e w = clash (and_from _ _ (rise j w.rises) (lt-ltb _ _ w.below)) e
     where
@@ -134,7 +114,7 @@ module _ (f : List ℕ) (i : ℕ) where
       let z = body_none f (head_of f) i start e in
       record {
         stands = w;
-        limits = λ q. within (head_of f) (pick_missed _ 4 (lit< tt) (sym (body_1 f (head_of f) kind (start + 4) (u16_at f start) (head_kind q)) ∙ z));
+        limits = λ q. pick_missed _ 4 (lit< tt) (sym (body_1 f (head_of f) kind (start + 4) (u16_at f start) (head_kind q)) ∙ z);
         entries = λ q x l.
             let c : all (u16_at f start) (entry_fits f (start + 4) (2 ^ (head_of f).m)) ≡ true =
             pick_passed _ 5 (lit< tt) (sym (body_2 f (head_of f) kind (start + 4) (u16_at f start) q) ∙ z) in
@@ -153,7 +133,7 @@ module _ (f : List ℕ) (i : ℕ) where
         go k q (is_head z) =
             ⊎_elim
             (λ b. let c : 4 ≡ r = sym (ap (λ (x : Bool). pick x 4 0) b) ∙ sym (body_1 f (head_of f) kind (start + 4) (u16_at f start) q) ∙ e in
-            let g : RefusedFor f 4 (place f 0) = limit_broken (subst (RecordStands f) z w) (beyond (head_of f) b) in
+            let g : RefusedFor f 4 (place f 0) = limit_broken (subst (RecordStands f) z w) (λ e. clash b e) in
             subst (λ (x : ℕ). RefusedFor f x start) c (subst (λ (x : ℕ). RefusedFor f 4 (place f x)) (sym z) g))
             (λ b. absurd (n (sym e ∙ body_1 f (head_of f) kind (start + 4) (u16_at f start) q ∙ ap (λ (x : Bool). pick x 4 0) b)))
             (cases_Bool (broken (head_of f).m (head_of f).s (head_of f).k))

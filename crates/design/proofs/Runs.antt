@@ -15,7 +15,7 @@ use Rattle.records.specs.Design.{stage_of}
 use Rattle.design.specs.Reading.{number_of, meaning}
 use Rattle.design.specs.Heads.{numbers, laid}
 use Rattle.design.specs.declared.heads.Head as heads
-use Rattle.design.specs.Inside.Described.{Describes}
+use Rattle.design.specs.Layout.{Describes}
 use Rattle.design.specs.Inside.StageLists.{body_at, Inside, AllInside, lists_of, run_length, Stands, lists_in}
 use Rattle.design.proofs.Layouts.{described}
 use Rattle.design.proofs.StageLists.{lists_length, lists_of_length, lists_of_at, Stand, stand}

@@ -10,7 +10,7 @@ use Rattle.finite.proofs.Testing.{tabulate_length, tabulate_at}
 use Rattle.records.specs.Bytes.{Bytes, u16_at, term_bytes}
 use Rattle.records.specs.Design.{stage_of, list_of}
 use Rattle.design.specs.Reading.{head_of, last_of, number_of, place, meaning}
-use Rattle.design.specs.Inside.Described.{Describes}
+use Rattle.design.specs.Layout.{Describes}
 use Rattle.records.specs.Inside.Terms.{terms}
 use Rattle.design.specs.Inside.StageLists.{body_at, Inside, AllInside, lists_of}
 use Rattle.design.specs.Layout.{Layout}

@@ -1,8 +1,9 @@
--- What the reader answers. A maker's own reader must answer just this (RULES 5.5).
-use Rattle.std.specs.Prelude.{ℕ, ◌+◌, List, ◌++◌, drop, replicate, eqb}
+-- What a reader of design files promises (RULES 5.5): its answer is `layout_of`, every field of it, on refusals too. A maker's own reader that answers just this
+-- may stand in the place of ours: of a file that reads, what judging, running and joining rely on is `Describes`, which the layout meets.
+use Rattle.std.specs.Prelude.{ℕ, ◌+◌, ◌<◌, ◌≡◌, List, get_or, ◌++◌, drop, replicate, eqb}
 use Rattle.finite.specs.Tests.{pick, tabulate}
 use Rattle.design.specs.Limits.{Head, greatest_records}
-use Rattle.design.specs.Reading.{Reading, refused, means, head_of, head_fault, last_of, place, reading}
+use Rattle.design.specs.Reading.{Reading, refused, means, head_of, head_fault, last_of, place, meaning, reading}
 
 -- what reading the head record alone finds: the reason of a refusal, or 0 and the head
 pub record HeadRead : Type 0 where
@@ -56,3 +57,11 @@ layout_of_reading f (means d) = read_layout f
 
 unfoldable pub layout_of : List ℕ → Layout
 layout_of f = layout_of_reading f (reading f)
+
+-- ---- what is relied on
+
+-- the layout is that of the file f, which reads: its head, and where the body of each record starts, up to the end
+pub record Describes (f : List ℕ) (l : Layout) : Type 0 where
+  pub read : reading f ≡ means (meaning f)
+  pub head : l.head ≡ head_of f
+  pub starts : (i : ℕ) → i < last_of (head_of f) + 1 → get_or l.starts i 0 ≡ place f i + 4

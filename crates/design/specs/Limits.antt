@@ -1,5 +1,5 @@
 -- The limits (RULES 3): those of m, s and k, which are fixed with the head and belong to it, and that of a list.
-use Rattle.std.specs.Prelude.{ℕ, ◌+◌, ◌*◌, ◌^◌, Bool, ◌||◌, List, [], ◌∷◌, ltb, Result, Ok, Err}
+use Rattle.std.specs.Prelude.{ℕ, ◌+◌, ◌*◌, ◌^◌, ◌≡◌, Bool, false, ◌||◌, List, [], ◌∷◌, ltb, Result, Ok, Err}
 use Rattle.finite.specs.Tests.{pick}
 use Rattle.anf.specs.Transform as transform
 use Rattle.reasons.specs.Numbers.{number}
@@ -43,6 +43,10 @@ pub record Head : Type 0 where
 unfoldable pub broken : ℕ → ℕ → ℕ → Bool
 broken m s k =
     ltb m 1 || ltb greatest_width m || ltb s least_shares || ltb greatest_shares s || ltb greatest_share_bits (m * s) || ltb k 1 || ltb greatest_stages k
+
+-- none of them does
+abbrev pub WithinLimits : ℕ → ℕ → ℕ → Type 0
+WithinLimits m s k = broken m s k ≡ false
 
 -- the answer of the head's constructor
 abbrev pub checked : ℕ → ℕ → ℕ → Result Head Reason

@@ -6,7 +6,7 @@ use Rattle.records.specs.Kinds.{code}
 use Rattle.records.specs.declared.kind.Kind.TheVariants as kinds
 use Rattle.anf.specs.Terms.{before}
 use Rattle.records.specs.Bytes.{byte, u16_at, u32_at}
-use Rattle.design.specs.Limits.{greatest_width, least_shares, greatest_shares, greatest_share_bits, greatest_stages, greatest_terms}
+use Rattle.design.specs.Limits.{greatest_terms, WithinLimits}
 use Rattle.design.specs.Reading.{head_of, last_of, kind_due, place}
 use Rattle.design.specs.Limits.{Head}
 
@@ -32,14 +32,8 @@ term_at f i j = u32_at f (place f i + 4 + 4 * j)
 -- ---- a record without fault
 
 -- no head number breaks a limit
-pub record WithinLimits (h : Head) : Type 0 where
-  pub least_m : 1 ≤ h.m
-  pub greatest_m : h.m ≤ greatest_width
-  pub least_s : least_shares ≤ h.s
-  pub greatest_s : h.s ≤ greatest_shares
-  pub greatest_bits : h.m * h.s ≤ greatest_share_bits
-  pub least_k : 1 ≤ h.k
-  pub greatest_k : h.k ≤ greatest_stages
+abbrev pub HeadFits : List ℕ → Type 0
+HeadFits f = WithinLimits (head_of f).m (head_of f).s (head_of f).k
 
 -- n is a length that a record of this kind may have
 pub record LengthFits (h : Head) (kind n : ℕ) : Type 0 where
@@ -63,7 +57,7 @@ pub record RecordStands (f : List ℕ) (i : ℕ) : Type 0 where
 -- and its body has no fault
 pub record RecordFits (f : List ℕ) (i : ℕ) : Type 0 where
   pub stands : RecordStands f i
-  pub limits : i ≡ 0 → WithinLimits (head_of f)
+  pub limits : i ≡ 0 → HeadFits f
   pub entries : due_at f i ≡ code kinds.Table → (x : ℕ) → x < 2 ^ (head_of f).m → entry_at f i x < 2 ^ (head_of f).m
   pub terms : due_at f i ≡ code kinds.List → (j : ℕ) → j < length_at f i / 4 → TermFits f i j
 
@@ -81,20 +75,20 @@ pub data RefusedFor (f : List ℕ) : ℕ → ℕ → Type 0 where
   -- record i's head is cut short
   head_cut : (i : ℕ) → Reached f i → length f < place f i + 4 → RefusedFor f (number CutShort) (place f i)
   -- its kind is not the one due
-  kind_wrong : (i : ℕ) → Reached f i → place f i + 4 ≤ length f → (kind_at f i ≡ due_at f i → ⊥) → RefusedFor f (number WrongKind) (place f i)
+  kind_wrong : (i : ℕ) → Reached f i → place f i + 4 ≤ length f → ¬ (kind_at f i ≡ due_at f i) → RefusedFor f (number WrongKind) (place f i)
   -- its length is not one that is due
   length_wrong : (i : ℕ) → Reached f i → place f i + 4 ≤ length f → kind_at f i ≡ due_at f i
-      → (LengthFits (head_of f) (due_at f i) (length_at f i) → ⊥) → RefusedFor f (number WrongLength) (place f i)
+      → ¬ LengthFits (head_of f) (due_at f i) (length_at f i) → RefusedFor f (number WrongLength) (place f i)
   -- its body is cut short
   body_cut : (i : ℕ) → Reached f i → place f i + 4 ≤ length f → kind_at f i ≡ due_at f i → LengthFits (head_of f) (due_at f i) (length_at f i)
       → length f < place f i + 4 + length_at f i → RefusedFor f (number CutShort) (place f i)
   -- the first record is the head, and one of its numbers breaks a limit
-  limit_broken : RecordStands f 0 → (WithinLimits (head_of f) → ⊥) → RefusedFor f (number LimitBroken) (place f 0)
+  limit_broken : RecordStands f 0 → ¬ HeadFits f → RefusedFor f (number LimitBroken) (place f 0)
   -- record i is a table, and x its first entry that is 2^m or more
   entry_high : (i x : ℕ) → Reached f i → RecordStands f i → due_at f i ≡ code kinds.Table → x < 2 ^ (head_of f).m → ((y : ℕ) → y < x → entry_at f i y < 2 ^ (head_of f).m)
       → 2 ^ (head_of f).m ≤ entry_at f i x → RefusedFor f (number EntryTooLarge) (place f i)
   -- record i is a list, and j its first term that names a variable beyond m × s or does not rise
   term_wrong : (i j : ℕ) → Reached f i → RecordStands f i → due_at f i ≡ code kinds.List → j < length_at f i / 4 → ((l : ℕ) → l < j → TermFits f i l)
-      → (TermFits f i j → ⊥) → RefusedFor f (number BadTerm) (place f i)
+      → ¬ TermFits f i j → RefusedFor f (number BadTerm) (place f i)
   -- no record has a fault, and bytes follow the end
   bytes_follow : FitBefore f (last_of (head_of f) + 1) → place f (last_of (head_of f) + 1) < length f → RefusedFor f (number BytesFollow) (place f (last_of (head_of f) + 1))

@@ -1,9 +1,9 @@
 -- Which designs have a file, and when two have one meaning (RULES 4.6, 4.8, 5.4).
-use Rattle.std.specs.Prelude.{ℕ, ◌*◌, ◌^◌, ◌≤◌, ◌<◌, ◌≡◌, false, List, [], length, get_or}
+use Rattle.std.specs.Prelude.{ℕ, ◌*◌, ◌^◌, ◌≤◌, ◌<◌, ◌≡◌, List, [], length, get_or}
 use Rattle.anf.specs.Terms.{IsTermList, value_at}
 use Rattle.anf.specs.Tables.{TableFits}
 use Rattle.records.specs.Design.{Stage, Design, stage_of, list_of}
-use Rattle.design.specs.Limits.{greatest_terms, broken}
+use Rattle.design.specs.Limits.{greatest_terms, WithinLimits}
 
 -- up to the greatest number of terms, in n variables, strictly rising
 pub record ListFits (n : ℕ) (ts : List ℕ) : Type 0 where
@@ -16,7 +16,7 @@ pub record StageFits (m s : ℕ) (g : Stage) : Type 0 where
   pub list : (l : ℕ) → l < m * s → ListFits (m * s) (get_or g.lists l [])
 
 pub record WellFormed (d : Design) : Type 0 where
-  pub limits : broken d.m d.s d.k ≡ false
+  pub limits : WithinLimits d.m d.s d.k
   pub box : TableFits d.m d.box
   pub count : length d.stages ≡ d.k
   pub stage : (t : ℕ) → t < d.k → StageFits d.m d.s (stage_of d t)

@@ -6,7 +6,7 @@ ghost use Rattle.design.specs.WellFormed.{WellFormed};
 ghost use Rattle.records.specs.Design.{stage_of, list_of};
 ghost use Rattle.records.specs.Encode.{stage_bytes};
 ghost use Rattle.design.specs.Reading.{means, reading};
-ghost use Rattle.design.specs.Inside.Described.{Describes};
+ghost use Rattle.design.specs.Layout.{Describes};
 ghost use Rattle.design.specs.Heads.{numbers, laid, design_by};
 
 use super::reader::body_size;

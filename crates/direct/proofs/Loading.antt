@@ -4,7 +4,7 @@ use mathlib.Core.Path.{◌≡◌, refl, sym, ap, ap₂, ◌∙◌}
 use mathlib.Core.Logic.{◌≢◌}
 use mathlib.Core.Bool.{Bool, true, false, not, ◌&&◌}
 use mathlib.Core.List.{List, [], ◌∷◌}
-use Prim.Native.Nat.{ℕ, ◌+◌, ◌-◌, ◌^◌, ◌≤◌, ◌<◌}
+use Prim.Native.Nat.{ℕ, zero, suc, ◌+◌, ◌-◌, ◌^◌, ◌≤◌, ◌<◌}
 use native.Mathlib.Decide.{dec_lt, ℕ_discrete}
 use native.Mathlib.Omega.{arith}
 use lib.Pow.{pow_mono}
@@ -17,33 +17,38 @@ use Rattle.std.proofs.lemmas.Grind.{get_or_default_zero}
 use Rattle.std.proofs.lemmas.List.{get_or_past}
 use Rattle.finite.specs.Tests.{pick, implies, all, first, any, tabulate}
 use Rattle.finite.specs.Sets.{has}
-use Rattle.finite.proofs.Testing.{clash, all_at, all_intro, implies_at, pick_true, pick_false}
+use Rattle.finite.proofs.Testing.{clash, all_at, all_intro, implies_at, pick_false}
 use Rattle.std.proofs.lemmas.Bool.{and_from, and_parts, and_right}
 use Rattle.finite.proofs.Elements.{has_none, has_all}
 use Rattle.design.specs.Limits.{greatest_shares, broken}
 use Rattle.design.proofs.Limits.{bounds}
-use Rattle.direct.specs.Direct.{is_outside, loads, Loads, placed, component_for, published}
+use Rattle.direct.specs.Direct.{is_outside, loads, Loads, named_component, placed, component_for, published}
 use Rattle.direct.proofs.Placement.{Outside}
 use Rattle.direct.proofs.Bench.{published_three, published_four, published_five}
 
 -- ---- the component of a set by the table
 
+named_less : (c : ℕ) → named_component c ≡ c - 1
+named_less zero = omega arith
+named_less (suc c) = omega arith
+
+-- at a set, which is not the empty one
+placed_set : (s : ℕ) (l : List ℕ) (J : ℕ) → J ≢ 0 → placed s l J ≡ get_or l (J - 1) (s + 1) - 1
+unfolding placed
+placed_set s l zero n = absurd (n refl)
+placed_set s l (suc i) n = named_less _ ∙ ap (λ (x : ℕ). get_or l x (s + 1) - 1) (omega arith)
+
 module _ (s : ℕ) (l : List ℕ) (J : ℕ) where
   pub placed_constant : J ≡ 0 → 0 ≡ placed s l J
   unfolding placed
-  placed_constant z = sym (pick_true (eqb J 0) _ _ (eq-eqb J 0 z))
+  placed_constant z = rw z refl
 
   module _ (some : J ≢ 0) where
     pub placed_past : length l < J → s ≡ placed s l J
-    unfolding placed
-    placed_past h =
-        sym (pick_false (eqb J 0) _ _ (ne_eqb J 0 some) ∙ ap (λ (c : ℕ). c - 1) (get_or_past l (J - 1) (s + 1) (omega arith)) ∙ omega arith)
+    placed_past h = sym (placed_set s l J some ∙ ap (λ (c : ℕ). c - 1) (get_or_past l (J - 1) (s + 1) (omega arith)) ∙ omega arith)
 
     pub placed_byte : J ≤ length l → (c : ℕ) → c ≡ get_or l (J - 1) 0 → c - 1 ≡ placed s l J
-    unfolding placed
-    placed_byte h c e =
-        ap (λ (x : ℕ). x - 1) (e ∙ sym (get_or_default_zero l (J - 1) (s + 1) (omega arith)))
-        ∙ sym (pick_false (eqb J 0) _ _ (ne_eqb J 0 some))
+    placed_byte h c e = ap (λ (x : ℕ). x - 1) (e ∙ sym (get_or_default_zero l (J - 1) (s + 1) (omega arith))) ∙ sym (placed_set s l J some)
 
 -- ---- the tests, and the same as propositions
 

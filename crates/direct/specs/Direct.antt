@@ -1,11 +1,11 @@
 -- The direct sharing of a box (RULES 9).
-use Rattle.std.specs.Prelude.{ℕ, ◌+◌, ◌-◌, ◌*◌, ◌/◌, ◌%◌, ◌^◌, ◌≡◌, ◌<◌, ◌≤◌, Bool, false, not, ◌&&◌, List, [], ◌∷◌, length, get_or, eqb, leb}
+use Rattle.std.specs.Prelude.{ℕ, zero, suc, ◌+◌, ◌-◌, ◌*◌, ◌/◌, ◌%◌, ◌^◌, ◌≡◌, ◌<◌, ◌≤◌, Bool, false, not, ◌&&◌, List, [], ◌∷◌, length, get_or, eqb, leb}
 use Rattle.finite.specs.Tests.{pick, all, any, first, total, bit, count, tabulate}
 use Rattle.finite.specs.Sets.{has}
 use Rattle.anf.specs.NormalForm.{subset_sum}
 use Rattle.anf.specs.Terms.{passing}
 use Rattle.anf.specs.Tables.{entry, Permutation}
-use Rattle.design.specs.Limits.{least_shares, greatest_shares, broken}
+use Rattle.design.specs.Limits.{least_shares, greatest_shares, WithinLimits}
 use Rattle.records.specs.Design.{Stage, Design}
 use Rattle.anf.specs.Tables.{TableFits}
 use Rattle.sharing.specs.Sharing.{share}
@@ -36,9 +36,15 @@ pub record Loads (s : ℕ) (l : List ℕ) : Type 0 where
   pub most : (i : ℕ) → i < 2 ^ s - 2 → get_or l i 0 ≤ s
   pub outside : (i : ℕ) → i < 2 ^ s - 2 → has (i + 1) (get_or l i 0 - 1) ≡ false
 
+-- the component that a byte names, which counts from 1; 0, which a placement that loads has nowhere, is taken for 1
+abbrev pub named_component : ℕ → ℕ
+named_component zero = 0
+named_component (suc c) = c
+
 -- The component by a table: the constant goes to the first, a set that has no byte, as that of all shares, to none, for which s stands.
 unfoldable pub placed : ℕ → List ℕ → ℕ → ℕ
-placed s l J = pick (eqb J 0) 0 (get_or l (J - 1) (s + 1) - 1)
+placed s l zero = 0
+placed s l (suc i) = named_component (get_or l i (s + 1))
 
 -- the component after c: after the last comes the first
 abbrev pub after : ℕ → ℕ → ℕ
@@ -81,6 +87,6 @@ pub record Shareable (m s : ℕ) (t : List ℕ) : Type 0 where
 
 -- a permutation table within the limits
 pub record Box (m s : ℕ) (t : List ℕ) : Type 0 where
-  pub limits : broken m s 1 ≡ false
+  pub limits : WithinLimits m s 1
   pub table : TableFits m t
   pub injective : Permutation m t

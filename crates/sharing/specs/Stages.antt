@@ -1,5 +1,5 @@
 -- A stage as functions: its components, and what correct, non-complete and uniform mean of them (RULES 1.7 to 1.11).
-use Rattle.std.specs.Prelude.{ℕ, ◌+◌, ◌*◌, ◌^◌, ◌<◌, ◌≡◌, Bool, ◌&&◌, not, List, [], ◌∷◌, eqb}
+use Rattle.std.specs.Prelude.{ℕ, ◌+◌, ◌*◌, ◌^◌, ◌<◌, ◌≡◌, ◌≢◌, Bool, ◌&&◌, not, List, [], ◌∷◌, eqb}
 use Rattle.finite.specs.Tests.{all, any, count, implies}
 use Rattle.finite.specs.Sums.{xor_below}
 use Rattle.anf.specs.Terms.{value_at}
@@ -29,6 +29,13 @@ Ignores w s e f = (σ : ℕ) → σ < 2 ^ (w * s) → (v : ℕ) → v < 2 ^ w �
 -- it ignores at least one share
 abbrev pub IgnoresSome : ℕ → ℕ → (ℕ → ℕ) → Type 0
 IgnoresSome w s f = (e : ℕ) × (e < s) × Ignores w s e f
+
+-- the other way round: it depends on share e, as some change of that share alone changes its value; and it depends on every share
+abbrev pub DependsOn : ℕ → ℕ → ℕ → (ℕ → ℕ) → Type 0
+DependsOn w s e f = (σ : ℕ) × (σ < 2 ^ (w * s)) × (v : ℕ) × (v < 2 ^ w) × (f (with_share w e v σ) ≢ f σ)
+
+abbrev pub DependsOnAll : ℕ → ℕ → (ℕ → ℕ) → Type 0
+DependsOnAll w s f = (e : ℕ) → e < s → DependsOn w s e f
 
 -- non-complete: each component ignores at least one share, any one, the same for all its bits
 abbrev pub NonComplete : ℕ → ℕ → (ℕ → ℕ → ℕ) → Type 0

@@ -23,7 +23,7 @@ use Rattle.design.specs.Reading.{refused, means, reading}
 use Rattle.design.proofs.Limits.{bounds}
 use Rattle.sharing.specs.Stages.{output, component}
 use Rattle.sharing.specs.Chain.{handed}
-use Rattle.threshold.specs.Inside.Outcomes.{finished}
+use Rattle.threshold.specs.Outcome.{finished}
 use Rattle.sharing.specs.Sharing.{packed}
 use Rattle.threshold.specs.Running.{Ran, unpacked, share_fits, shares_fit, five_zeros, refused_run, running_on, running}
 use Rattle.threshold.proofs.Packing.{share_fits_lem, packed_small, unpacked_filled}

@@ -1,4 +1,3 @@
 -- What only contracts inside the crates need: no published contract and no promise rests on it.
 pub mod Blocks
 pub mod Outputs
-pub mod Outcomes

@@ -6,7 +6,7 @@ ghost use Rattle.design.specs.Inside.Held.{design_of};
 ghost use Rattle.sharing.specs.Stages.{output};
 ghost use Rattle.sharing.specs.Sharing.{packed};
 ghost use Rattle.threshold.specs.Running.{unpacked, share_fits, shares_fit, running_on, running};
-ghost use Rattle.threshold.specs.Inside.Outcomes.{ran_of};
+ghost use Rattle.threshold.specs.Outcome.{ran_of};
 
 use super::FiveShares;
 use super::engine::component_at;

@@ -2,7 +2,7 @@ use Rattle.std.proofs.Common.{sym}
 use Rattle.design.proofs.Reading.{walked_first, walk_stopped, walked_more, bytes_follow, walk_reads, walk_describes, start_fits, next_fits}
 use Rattle.design.proofs.Layouts.{described, refused_as}
 use Rattle.design.proofs.Bodies.{bytes_held}
-use Rattle.design.specs.Inside.Described.{Describes}
+use Rattle.design.specs.Layout.{Describes}
 use Rattle.design.specs.Heads.{laid}
 use Rattle.design.proofs.reader.walk.Goals as goal
 

@@ -1,4 +1,4 @@
--- The outcome of a run, as the definitions see it.
+-- What a run gives, as an answer.
 use Rattle.std.specs.Prelude.{ℕ, List, Result, Ok, Err}
 use Rattle.reasons.specs.Numbers.{number}
 use Rattle.reasons.specs.declared.Reason.{Reason}
