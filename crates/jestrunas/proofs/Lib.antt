@@ -3,3 +3,4 @@ pub mod ProducedVerdict
 pub mod JoinedVerdict
 pub mod JoinedRuns
 pub mod Promises
+pub mod Clauses

@@ -1,3 +1,4 @@
 -- The published operations.
 pub mod Published
 pub mod JoinedRuns
+pub mod Promised

@@ -34,3 +34,11 @@ read_answer f = verdict.answer (reason_of (reading f)) (place_of (reading f)) 0
 -- a verdict as it is printed: three decimal numbers with one space between
 abbrev pub verdict_text : Verdict → List ℕ
 verdict_text v = decimal v.reason ++ 32 ∷ (decimal v.place ++ 32 ∷ decimal v.component)
+
+-- ---- and back: what C was answered, as the definitions' records
+
+abbrev pub of_verdict : Verdict → verdict.Verdict
+of_verdict v = verdict.answer v.reason v.place v.component
+
+abbrev pub of_run : Ran → running.Ran
+of_run r = record { reason = r.reason; shares = r.shares }

@@ -142,7 +142,7 @@ impl From<Result<Needs, Reason>> for Forecast {
 
 impl From<Result<FiveShares, Reason>> for Ran {
     ghost use Rattle.std.specs.Prelude.{◌≡◌};
-    ghost use Rattle.threshold.specs.Inside.Outcomes.{ran_of};
+    ghost use Rattle.threshold.specs.Outcome.{ran_of};
     ghost use Rattle.jestrunas.specs.Published.{c_ran};
 
     ghost from_gives = { λ outcome answer. answer ≡ c_ran (ran_of outcome) };

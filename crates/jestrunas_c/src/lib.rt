@@ -2,21 +2,30 @@
 // functions are exported to C from a static library alone.
 #![tactic(auto)]
 
-ghost use Rattle.std.specs.Prelude.{◌≡◌, length};
-ghost use Rattle.anf.specs.Transform.{transform_reason, transform_after};
+ghost use Rattle.std.specs.Prelude.{◌≡◌, ◌≢◌, ◌↔◌, ◌≤◌, ◌<◌, ◌^◌, ℕ, length, take, drop};
+ghost use Rattle.anf.specs.Transform.{transform_reason, transform_after, transformed};
+ghost use Rattle.anf.specs.Explained.{TransformExplained};
+ghost use Rattle.design.specs.Refused.{RefusedFor};
 ghost use Rattle.threshold.specs.Running.{running};
-ghost use Rattle.checker.specs.Verdict.{workspace_after};
-ghost use Rattle.checker.specs.Trials.{judging, forecast};
-ghost use Rattle.producer.specs.Producing.{producing, output_after};
-ghost use Rattle.joiner.specs.Joining.{joining, joined_after};
-ghost use Rattle.jestrunas.specs.Published.{c_verdict, c_judged, c_forecast, c_ran, c_produced, read_answer};
+ghost use Rattle.threshold.specs.Explained.{RunningExplained};
+ghost use Rattle.checker.specs.Verdict.{verdict, workspace_after};
+ghost use Rattle.checker.specs.Accepted.{Explained};
+ghost use Rattle.checker.specs.Trials.{judging, trials, forecast};
+ghost use Rattle.producer.specs.Producing.{producing, output_after, Succeeds};
+ghost use Rattle.producer.specs.Explained.{ProducingExplained};
+ghost use Rattle.joiner.specs.Joining.{joining, joined_after, JoiningExplained};
+ghost use Rattle.jestrunas.specs.Published.{c_verdict, c_judged, c_forecast, c_ran, c_produced, read_answer, of_verdict, of_run};
+ghost use Rattle.jestrunas.specs.Promised.{Reads, Early, WorkspaceZeroed, IsAccepted, IsAssured};
+ghost use Rattle.jestrunas.specs.Promised.{ReadsDirect, Impossible, Joins, ReadsJoined};
 
 use jestrunas::{Forecast, Judged, Produced, Ran, Shares, Verdict};
 
 /// Reads a design file (RULES 5): the first fault, 1 to 7, and its place in bytes from the start of the file; three zeros where the file reads.
 #[unsafe(no_mangle)]
 pub extern "C" fn jestrunas_read(file: &[u8]) -> Verdict
-    ensures { result ≡ c_verdict (read_answer file.now) }
+    ensures value { result ≡ c_verdict (read_answer file.now) }
+    ensures reads { (result.reason ≡ 0) ↔ Reads file.now }
+    ensures explained { result.reason ≢ 0 → RefusedFor file.now result.reason result.place }
 {
     jestrunas::jestrunas_read(file)
 }
@@ -25,7 +34,10 @@ pub extern "C" fn jestrunas_read(file: &[u8]) -> Verdict
 /// two zeros.
 #[unsafe(no_mangle)]
 pub extern "C" fn jestrunas_forecast(file: &[u8]) -> Forecast
-    ensures { result ≡ c_forecast (forecast file.now) }
+    ensures value { result ≡ c_forecast (forecast file.now) }
+    ensures most { (n : ℕ) → trials file.now n ≤ result.trials }
+    ensures enough { (n : ℕ) → result.workspace ≤ n → (verdict file.now n).reason ≢ 9 }
+    ensures needed { (n : ℕ) → n < result.workspace → (verdict file.now n).reason ≢ 0 }
 {
     jestrunas::jestrunas_forecast(file)
 }
@@ -36,6 +48,12 @@ pub extern "C" fn jestrunas_forecast(file: &[u8]) -> Forecast
 pub extern "C" fn jestrunas_judge(file: &[u8], workspace: &mut [u8]) -> Judged
     ensures value { result ≡ c_judged (judging file.now (length workspace.old)) }
     ensures workspace_after { workspace.new ≡ workspace_after file.now workspace.old }
+    ensures accepted { (result.verdict.reason ≡ 0) ↔ IsAccepted file.now (length workspace.old) }
+    ensures explained { Explained file.now (length workspace.old) (of_verdict result.verdict) }
+    ensures assured { result.verdict.reason ≡ 0 → IsAssured file.now }
+    ensures foreseen { result.trials ≤ (forecast file.now).trials }
+    ensures untouched { Early result.verdict.reason → workspace.new ≡ workspace.old }
+    ensures zeroed { WorkspaceZeroed file.now result.verdict.reason workspace.old workspace.new }
 {
     jestrunas::jestrunas_judge(file, workspace)
 }
@@ -44,7 +62,8 @@ pub extern "C" fn jestrunas_judge(file: &[u8], workspace: &mut [u8]) -> Judged
 /// s-th that is not 0, with five zeros.
 #[unsafe(no_mangle)]
 pub extern "C" fn jestrunas_run(file: &[u8], shares: Shares) -> Ran
-    ensures { result ≡ c_ran (running file.now shares.share) }
+    ensures value { result ≡ c_ran (running file.now shares.share) }
+    ensures explained { RunningExplained file.now shares.share (of_run result) }
 {
     jestrunas::jestrunas_run(file, shares)
 }
@@ -61,6 +80,13 @@ pub extern "C" fn jestrunas_produce(
 ) -> Produced
     ensures value { result ≡ c_produced (producing m s table.now placement.now (length output.old)) }
     ensures output_after { output.new ≡ output_after m s table.now placement.now output.old }
+    ensures succeeds { (result.reason ≡ 0) ↔ Succeeds m s table.now placement.now (length output.old) }
+    ensures explained { ProducingExplained m s table.now placement.now (length output.old) result.reason }
+    ensures impossible { Impossible m s table.now placement.now result.reason }
+    ensures reads { result.reason ≡ 0
+        → ReadsDirect m s table.now placement.now (take result.length output.new) }
+    ensures rest { result.reason ≡ 0 → drop result.length output.new ≡ drop result.length output.old }
+    ensures refused { result.reason ≢ 0 → output.new ≡ output.old }
 {
     jestrunas::jestrunas_produce(m, s, table, placement, output)
 }
@@ -71,6 +97,11 @@ pub extern "C" fn jestrunas_produce(
 pub extern "C" fn jestrunas_join(first: &[u8], second: &[u8], output: &mut [u8]) -> Produced
     ensures value { result ≡ c_produced (joining first.now second.now (length output.old)) }
     ensures output_after { output.new ≡ joined_after first.now second.now output.old }
+    ensures succeeds { (result.reason ≡ 0) ↔ Joins first.now second.now (length output.old) }
+    ensures explained { JoiningExplained first.now second.now (length output.old) result.reason }
+    ensures reads { result.reason ≡ 0 → ReadsJoined first.now second.now (take result.length output.new) }
+    ensures rest { result.reason ≡ 0 → drop result.length output.new ≡ drop result.length output.old }
+    ensures refused { result.reason ≢ 0 → output.new ≡ output.old }
 {
     jestrunas::jestrunas_join(first, second, output)
 }
@@ -80,6 +111,10 @@ pub extern "C" fn jestrunas_join(first: &[u8], second: &[u8], output: &mut [u8])
 pub extern "C" fn jestrunas_transform(m: usize, input: &[u8], output: &mut [u8]) -> usize
     ensures value { result ≡ transform_reason m input.now (length output.old) }
     ensures output_after { output.new ≡ transform_after m input.now output.old }
+    ensures explained { TransformExplained m input.now (length output.old) result }
+    ensures words { result ≡ 0 → take (2 ^ m) output.new ≡ transformed m input.now }
+    ensures rest { result ≡ 0 → drop (2 ^ m) output.new ≡ drop (2 ^ m) output.old }
+    ensures refused { result ≢ 0 → output.new ≡ output.old }
 {
     jestrunas::jestrunas_transform(m, input, output)
 }

@@ -1,0 +1,20 @@
+-- `jestrunas::jestrunas_join` meets its contract: each clause from its theorem, as the answer is that of the definition.
+use Rattle.std.proofs.Common.{ap, ◌∙◌}
+use Rattle.jestrunas.specs.Published.{c_produced}
+use Rattle.jestrunas.proofs.Clauses as clauses
+use Rattle.jestrunas.proofs.jestrunas_join.Goals as goal
+
+pub returns-clause-succeeds : goal.returns-clause-succeeds
+returns-clause-succeeds c = clauses.join_succeeds _ _ _ _ (c.from.ensures ∙ ap c_produced c.join.ensures.value)
+
+pub returns-clause-explained : goal.returns-clause-explained
+returns-clause-explained c = clauses.join_explained _ _ _ _ (c.from.ensures ∙ ap c_produced c.join.ensures.value)
+
+pub returns-clause-reads : goal.returns-clause-reads
+returns-clause-reads c = clauses.join_reads _ _ _ _ (c.from.ensures ∙ ap c_produced c.join.ensures.value) _ c.join.ensures.output_after
+
+pub returns-clause-rest : goal.returns-clause-rest
+returns-clause-rest c = clauses.join_rest _ _ _ _ (c.from.ensures ∙ ap c_produced c.join.ensures.value) _ c.join.ensures.output_after
+
+pub returns-clause-refused : goal.returns-clause-refused
+returns-clause-refused c = clauses.join_refused _ _ _ _ (c.from.ensures ∙ ap c_produced c.join.ensures.value) _ c.join.ensures.output_after
