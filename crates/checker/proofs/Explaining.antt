@@ -5,12 +5,10 @@ use mathlib.Core.Logic.{◌↔◌}
 use mathlib.Core.List.{List, ◌∷◌}
 use mathlib.Core.Bool.{Bool, true, false, not}
 use Prim.Native.Nat.{ℕ, zero, suc, ◌+◌, ◌^◌, ◌≤◌, ◌<◌}
-use native.Mathlib.Numerals.{add-one}
 use native.Mathlib.Omega.{arith}
 use borrow.Author.Tests.{lt-ltb, le-ltb}
 use lib.Dec.{ltb}
 use Rattle.std.proofs.lemmas.Bool.{true_from_ne_false, false_from_ne_true}
-use Rattle.finite.specs.Maps.{repeats}
 use Rattle.finite.specs.Tests.{first}
 use Rattle.finite.specs.Faults.{first_fault}
 use Rattle.finite.proofs.Testing.{first_found, none_any, any_at}
@@ -19,12 +17,11 @@ use Rattle.finite.proofs.Maps.{repeats→injective, injective→repeats}
 use Rattle.anf.specs.Tables.{entry, Permutation}
 use Rattle.records.specs.Design.{Stage, Design, stage_of}
 use Rattle.design.specs.WellFormed.{WellFormed}
-use Rattle.design.specs.Reading.{refused, means, reading}
 use Rattle.design.proofs.Theorems.{read_formed}
 use Rattle.sharing.specs.Stages.{correct, depends_on_all, non_complete}
 use Rattle.sharing.proofs.Tests.{correct↔, ignores_some↔, non_complete↔, uniform↔, not_non_complete}
 use Rattle.checker.specs.Verdict.{Verdict, answer, workspace_for, chain_is_box, stages_faults, judged, judged_reading, verdict}
-use Rattle.checker.specs.Accepted.{ChainIsBox, CorrectAt, IgnoresSomeAt, NonCompleteAt, UniformAt, SoundAt, SoundBefore, HasRoom, ExplainedDesign, Explained}
+use Rattle.checker.specs.Accepted.{CorrectAt, IgnoresSomeAt, NonCompleteAt, UniformAt, SoundAt, SoundBefore, HasRoom, ExplainedDesign, Explained}
 use Rattle.checker.specs.Accepted.{fault_8, fault_9, fault_10, fault_12, fault_13, fault_14, accepted, refusal, of_design}
 use Rattle.checker.proofs.StageVerdicts.{stage_then, stages_from, stages_next, stages_end}
 use Rattle.checker.proofs.Chaining.{chain↔}

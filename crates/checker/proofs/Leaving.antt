@@ -1,14 +1,14 @@
 -- The workspace after a verdict, by its reason: as it was with 1 to 9, else zero where the design asked for it. Assumes nothing.
-use mathlib.Core.Path.{◌≡◌, ap, ◌∙◌, sym}
+use mathlib.Core.Path.{◌≡◌, ap, ◌∙◌}
 use mathlib.Core.Logic.{◌⊎◌}
-use mathlib.Core.List.{List, ◌++◌}
+use mathlib.Core.List.{List}
 use Prim.Native.Nat.{ℕ, ◌≤◌}
 use lib.ListN.{length, take, drop, replicate, length-replicate}
 use lib.Seq.{take_at, drop_at}
 use Rattle.records.specs.Design.{Design}
 use Rattle.design.specs.Reading.{means, meaning, reading}
 use Rattle.design.proofs.Meaning.{read_means}
-use Rattle.checker.specs.Verdict.{workspace_for, zeroed, workspace_left, workspace_after, verdict}
+use Rattle.checker.specs.Verdict.{workspace_for, zeroed, workspace_after, verdict}
 use Rattle.checker.proofs.Workspace.{untouched, cleared}
 
 module _ (f ws : List ℕ) where

@@ -9,30 +9,29 @@ use native.Mathlib.Omega.{arith}
 use native.Mathlib.Decide.{ℕ_discrete}
 use lib.Pow.{pow_mono, pow_pos}
 use native.Mathlib.Nat.{pow-suc}
-use lib.Dec.{eqb}
 use lib.Bits.{bit_xor}
 use lib.ListN.{length, get_or}
-use Rattle.finite.specs.Tests.{pick, implies, bit, tabulate}
+use Rattle.finite.specs.Tests.{pick, bit, tabulate}
 use Rattle.finite.specs.Sets.{has, subset}
 use Rattle.finite.proofs.Testing.{all_intro, implies_intro, bool_ext, clash, tabulate_length, tabulate_at}
 use Rattle.finite.proofs.Elements.{has_is, has_congr, has_power, has_power_other, sets-eq, subset_has, subset_all}
-use Rattle.anf.specs.Terms.{value_at, IsTermList}
+use Rattle.anf.specs.Terms.{value_at}
 use Rattle.anf.specs.Tables.{entry, TableFits, Permutation}
 use Rattle.records.specs.Design.{Stage, Design, no_stage, stage_of}
 use Rattle.records.specs.Encode.{encode}
 use Rattle.design.specs.Limits.{WithinLimits}
-use Rattle.design.specs.WellFormed.{ListFits, StageFits, WellFormed}
-use Rattle.design.specs.Reading.{Reading, refused, means, reading}
+use Rattle.design.specs.WellFormed.{ListFits, WellFormed}
+use Rattle.design.specs.Reading.{means, reading}
 use Rattle.design.proofs.Limits.{bounds}
 use Rattle.design.proofs.Reasons.{reason_range}
 use Rattle.design.proofs.Theorems.{encode_reads}
 use Rattle.sharing.specs.Sharing.{sum, share, with_share}
-use Rattle.sharing.specs.Stages.{output, component}
+use Rattle.sharing.specs.Stages.{output}
 use Rattle.sharing.specs.Chain.{chained}
 use Rattle.sharing.proofs.Sharing.{sum_lt, share_with, with_lt}
 use Rattle.sharing.proofs.Output.{output_lt, output_bit}
 use Rattle.sharing.proofs.Tests.{correct↔, at_correct}
-use Rattle.checker.specs.Verdict.{Verdict, answer, workspace_for, verdict}
+use Rattle.checker.specs.Verdict.{Verdict, workspace_for, verdict}
 use Rattle.checker.specs.Trials.{Forecast, trials, forecast}
 use Rattle.checker.specs.Accepted.{ChainIsBox, CorrectAt, NonCompleteAt, UniformAt, SoundAt, Accepted, ExplainedDesign, Explained}
 use Rattle.checker.specs.Accepted.{fault_8, fault_9, fault_10, fault_12, fault_13, fault_14, accepted, refusal, of_design}

@@ -17,7 +17,7 @@ use Rattle.design.specs.Reading.{refused, last_of, head_of, kind_due, size_due, 
 use Rattle.design.specs.Refused.{HeadFits, LengthFits, TermFits, RecordStands, RecordFits, FitBefore, Reached, entry_at, kind_at, length_at, due_at}
 use Rattle.design.specs.Refused.{RefusedFor, head_cut, kind_wrong, length_wrong, body_cut, limit_broken, entry_high, term_wrong, bytes_follow}
 use Rattle.design.proofs.Records as records
-use Rattle.design.proofs.Reasons.{Kind, is_head, is_table, is_list, is_end, kind_cases, length_fits, length_not, term_fits_lem, term_not, refused_for}
+use Rattle.design.proofs.Reasons.{head_fits, head_unbroken, Kind, is_head, is_table, is_list, is_end, kind_cases, length_fits, length_not, term_fits_lem, term_not, refused_for}
 
 -- ---- the tests of a record, from what is known of it
 
@@ -90,7 +90,7 @@ module _ (f : List ℕ) (i : ℕ) where
     where
       go : (k : ℕ) → due_at f i ≡ k → Kind i k → records.body_fault f h (due_at f i) (at + 4) (length_at f i) ≡ 0
       go k q (is_head z) =
-          records.body_1 f h _ _ _ q ∙ pick_false _ 4 0 (w.limits z)
+          records.body_1 f h _ _ _ q ∙ pick_false _ 4 0 (head_unbroken f (w.limits z))
       go k q is_table =
           records.body_2 f h _ _ _ q
           ∙ pick_true _ 0 5 (all_intro _ _ (λ x l. records.entry_fits_lem f (at + 4) (2 ^ h.m) x (w.entries q x (omega (arith, w.stands.size.of_table q, l)))))
@@ -106,7 +106,7 @@ head_due f = refl
 limit_answered : (f : List ℕ) → RecordStands f 0 → ¬ HeadFits f → fault f 0 ≡ 4
 limit_answered f w n =
     past_frame f 0 w ∙ records.body_1 f (head_of f) _ _ _ (head_due f)
-    ∙ pick_true _ 4 0 (true_from_ne_false _ n)
+    ∙ pick_true _ 4 0 (true_from_ne_false _ (λ e. n (head_fits f e)))
 
 -- ---- the walk
 

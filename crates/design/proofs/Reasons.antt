@@ -21,8 +21,9 @@ use Rattle.design.specs.Limits.{greatest_terms, broken, Head}
 use Rattle.records.specs.Bytes.{u16_at}
 use Rattle.design.specs.Reading.{refused, means}
 use Rattle.design.specs.Reading.{last_of, head_of, kind_due, size_due, length_due, entry_fits, term_fits, previous, fault_at, meaning, place, walk, reading, body_faults}
-use Rattle.design.specs.Refused.{LengthFits, TermFits, RecordStands, RecordFits, FitBefore, Reached, term_at, kind_at}
+use Rattle.design.specs.Refused.{HeadFits, LengthFits, TermFits, RecordStands, RecordFits, FitBefore, Reached, term_at, kind_at}
 use Rattle.design.specs.Refused.{RefusedFor, head_cut, kind_wrong, length_wrong, body_cut, limit_broken, entry_high, term_wrong, bytes_follow}
+use Rattle.design.proofs.Limits.{bounds, unbroken}
 use Rattle.design.proofs.Records.{body_fault, Framed, body_1, body_2, body_3, body_none, fault_framed, previous_more, entry_below, entry_not, body_4}
 use Rattle.design.proofs.Meaning.{list_size}
 use Rattle.design.proofs.Walking.{place_next}
@@ -63,6 +64,23 @@ length_not h i kind n (is_head z) e w = clash (eq-eqb n 3 (w.of_head refl)) e
 length_not h i kind n is_table e w = clash (eq-eqb n (2 ^ h.m) (w.of_table refl)) e
 length_not h i kind n is_list e w = let q = w.of_list refl in clash (and_from _ _ (eq-eqb (n % 4) 0 q.0) (le-leb n (4 * greatest_terms) q.1)) e
 length_not h i kind n is_end e w = clash (eq-eqb n 0 (w.of_end refl)) e
+
+-- the head's limits
+pub head_fits : (f : List ℕ) → broken (head_of f).m (head_of f).s (head_of f).k ≡ false → HeadFits f
+head_fits f e =
+    let b = bounds (head_of f).m (head_of f).s (head_of f).k e in
+    record {
+      least_m = b.m_low;
+      greatest_m = b.m_high;
+      least_s = b.s_low;
+      greatest_s = b.s_high;
+      greatest_bits = b.bits;
+      least_k = b.k_low;
+      greatest_k = b.k_high;
+    }
+
+pub head_unbroken : (f : List ℕ) → HeadFits f → broken (head_of f).m (head_of f).s (head_of f).k ≡ false
+head_unbroken f w = unbroken _ _ _ w.least_m w.greatest_m w.least_s w.greatest_s w.greatest_bits w.least_k w.greatest_k
 
 -- term j of record i
 module _ (f : List ℕ) (i : ℕ) where
@@ -114,7 +132,7 @@ module _ (f : List ℕ) (i : ℕ) where
       let z = body_none f (head_of f) i start e in
       record {
         stands = w;
-        limits = λ q. pick_missed _ 4 (lit< tt) (sym (body_1 f (head_of f) kind (start + 4) (u16_at f start) (head_kind q)) ∙ z);
+        limits = λ q. head_fits f (pick_missed _ 4 (lit< tt) (sym (body_1 f (head_of f) kind (start + 4) (u16_at f start) (head_kind q)) ∙ z));
         entries = λ q x l.
             let c : all (u16_at f start) (entry_fits f (start + 4) (2 ^ (head_of f).m)) ≡ true =
             pick_passed _ 5 (lit< tt) (sym (body_2 f (head_of f) kind (start + 4) (u16_at f start) q) ∙ z) in
@@ -133,7 +151,7 @@ module _ (f : List ℕ) (i : ℕ) where
         go k q (is_head z) =
             ⊎_elim
             (λ b. let c : 4 ≡ r = sym (ap (λ (x : Bool). pick x 4 0) b) ∙ sym (body_1 f (head_of f) kind (start + 4) (u16_at f start) q) ∙ e in
-            let g : RefusedFor f 4 (place f 0) = limit_broken (subst (RecordStands f) z w) (λ e. clash b e) in
+            let g : RefusedFor f 4 (place f 0) = limit_broken (subst (RecordStands f) z w) (λ e. clash b (head_unbroken f e)) in
             subst (λ (x : ℕ). RefusedFor f x start) c (subst (λ (x : ℕ). RefusedFor f 4 (place f x)) (sym z) g))
             (λ b. absurd (n (sym e ∙ body_1 f (head_of f) kind (start + 4) (u16_at f start) q ∙ ap (λ (x : Bool). pick x 4 0) b)))
             (cases_Bool (broken (head_of f).m (head_of f).s (head_of f).k))

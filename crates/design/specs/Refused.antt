@@ -6,7 +6,7 @@ use Rattle.records.specs.Kinds.{code}
 use Rattle.records.specs.declared.kind.Kind.TheVariants as kinds
 use Rattle.anf.specs.Terms.{before}
 use Rattle.records.specs.Bytes.{byte, u16_at, u32_at}
-use Rattle.design.specs.Limits.{greatest_terms, WithinLimits}
+use Rattle.design.specs.Limits.{greatest_width, least_shares, greatest_shares, greatest_share_bits, greatest_stages, greatest_terms}
 use Rattle.design.specs.Reading.{head_of, last_of, kind_due, place}
 use Rattle.design.specs.Limits.{Head}
 
@@ -32,8 +32,14 @@ term_at f i j = u32_at f (place f i + 4 + 4 * j)
 -- ---- a record without fault
 
 -- no head number breaks a limit
-abbrev pub HeadFits : List ℕ → Type 0
-HeadFits f = WithinLimits (head_of f).m (head_of f).s (head_of f).k
+pub record HeadFits (f : List ℕ) : Type 0 where
+  pub least_m : 1 ≤ (head_of f).m
+  pub greatest_m : (head_of f).m ≤ greatest_width
+  pub least_s : least_shares ≤ (head_of f).s
+  pub greatest_s : (head_of f).s ≤ greatest_shares
+  pub greatest_bits : (head_of f).m * (head_of f).s ≤ greatest_share_bits
+  pub least_k : 1 ≤ (head_of f).k
+  pub greatest_k : (head_of f).k ≤ greatest_stages
 
 -- n is a length that a record of this kind may have
 pub record LengthFits (h : Head) (kind n : ℕ) : Type 0 where
