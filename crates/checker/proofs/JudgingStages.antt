@@ -19,7 +19,7 @@ use Rattle.sharing.proofs.Stages.{stage_uniform_repeats}
 use Rattle.checker.specs.Verdict.{Verdict, answer}
 use Rattle.checker.specs.Outcome.{refused_with}
 use Rattle.checker.specs.Trials.{Judged, correctness_at, uniformity_at, both_passes, trials_of, counted}
-use Rattle.checker.specs.Inside.Parts.{TablesPermute, with_trials, stage_judged, stages_judged, found, first_wrong, offending, first_met, FoundBelow, tries_until, stage_tries, stage_judging, fault_of}
+use Rattle.checker.specs.Inside.Parts.{TablesPermute, with_trials, stage_judged, stages_judged, found, first_wrong, offending, first_met, FoundBelow, tries_until, stage_tries, stage_judging, found_fault}
 use Rattle.checker.specs.declared.refusals.Refusal.{Refusal}
 use Rattle.checker.specs.declared.refusals.Refusal.TheVariants.{Unreadable, BoxRepeats, WorkspaceTooSmall, ChainIsNotBox, NotCorrect, NotNonComplete, NotUniform}
 use Rattle.design.specs.Errors.{fault_reason}
@@ -155,11 +155,11 @@ module _ (d : Design) (wf : WellFormed d) (t trials : ℕ) (to : FaultlessTo d t
       ap₂ counted (ap (λ (x : ℕ). answer 0 x 0) q ∙ done) (to.took ∙ ap (both_passes d) last ∙ ap (trials_of d) done)
 
   -- stage t is judged: o is its fault, and z its trials
-  module _ (h : t < d.k) (o : Option Refusal) (z : ℕ) (a : counted (fault_of o) z ≡ stage_judging d t) where
+  module _ (h : t < d.k) (o : Option Refusal) (z : ℕ) (a : counted (found_fault o) z ≡ stage_judging d t) where
     next : stages_judged d ≡ stage_then d t (stages_from d (t + 1))
     next = to.rest ∙ stages_next d t (omega (arith, wf.count))
 
-    is : fault_of o ≡ stage_judged d t
+    is : found_fault o ≡ stage_judged d t
     is = ap (λ (j : Judged). j.verdict) a
 
     took : z ≡ stage_tries d t (stage_judged d t).reason
@@ -173,13 +173,13 @@ module _ (d : Design) (wf : WellFormed d) (t trials : ℕ) (to : FaultlessTo d t
 
     pub stages_stop : (r : Refusal) → o ≡ Some r → counted (refused_with r) (trials + z) ≡ with_trials d (stages_judged d)
     stages_stop r w =
-        let v : refused_with r ≡ stage_judged d t = sym (ap fault_of w) ∙ is in
+        let v : refused_with r ≡ stage_judged d t = sym (ap found_fault w) ∙ is in
         let n : (stage_judged d t).reason ≡ 0 → ⊥ = λ y. refusal_some r (ap (λ (v : Verdict). v.reason) v ∙ y) in
         ap₂ counted v (omega (arith, to.took, took) ∙ sym (at_fault d t n)) ∙ ap (with_trials d) (sym (next ∙ stage_fault d t (stages_from d (t + 1)) n))
 
     pub stages_go : o ≡ None → FaultlessTo d (t + 1) (trials + z)
     stages_go w =
-        let fine : (stage_judged d t).reason ≡ 0 = sym (ap (λ (v : Verdict). v.reason) (sym (ap fault_of w) ∙ is)) in
+        let fine : (stage_judged d t).reason ≡ 0 = sym (ap (λ (v : Verdict). v.reason) (sym (ap found_fault w) ∙ is)) in
         record {
           rest = next ∙ stage_fine d t (stages_from d (t + 1)) fine;
           took = let a = both_more d t in let b = rw fine at took in omega (arith, to.took);

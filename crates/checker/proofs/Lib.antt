@@ -11,9 +11,9 @@ pub mod JudgingStages
 pub mod JudgingDesign
 pub mod Forecasting
 pub mod Exactly
-pub mod Explaining
-pub mod Leaving
+pub mod VerdictExplained
+pub mod WorkspaceAfter
 pub mod Assurance
 pub mod Trials
-pub mod Reached
+pub mod IdentityDesign
 pub mod Bench

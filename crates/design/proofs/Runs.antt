@@ -16,7 +16,7 @@ use Rattle.design.specs.Reading.{number_of, meaning}
 use Rattle.design.specs.Heads.{numbers, laid}
 use Rattle.design.specs.declared.heads.Head as heads
 use Rattle.design.specs.Layout.{Describes}
-use Rattle.design.specs.Inside.StageLists.{body_at, Inside, AllInside, lists_of, run_length, Stands, lists_in}
+use Rattle.design.specs.Inside.StageLists.{body_at, LiesWithin, AllWithin, lists_of, run_length, Stands, lists_in}
 use Rattle.design.proofs.Layouts.{described}
 use Rattle.design.proofs.StageLists.{lists_length, lists_of_length, lists_of_at, Stand, stand}
 
@@ -40,13 +40,13 @@ module _ (f starts run : List ℕ) (first n : ℕ) (room : first + n < length st
         ap (λ (x : ℕ). get_or run (x + 1) 0) z ∙ start_is (i + 1) (omega arith) ∙ ap (λ (x : ℕ). get_or starts x 0) q,
       )
 
-  run_inside : AllInside f starts first n → AllInside f run 0 (run_length run)
+  run_inside : AllWithin f starts first n → AllWithin f run 0 (run_length run)
   run_inside a i h =
       let w = starts_are i (omega (arith, run_length_lem)) in
       let b = a i (omega (arith, run_length_lem)) in
       rw (w.0, w.1) b
 
-  pub run_stands : n ≤ greatest_share_bits → AllInside f starts first n → Stands f run
+  pub run_stands : n ≤ greatest_share_bits → AllWithin f starts first n → Stands f run
   run_stands few a = record { some = omega (arith, run_size); few = omega (arith, run_length_lem); inside = run_inside a }
 
   pub run_lists : lists_in f run ≡ lists_of f starts first n
@@ -65,7 +65,7 @@ module _ (f starts : List ℕ) (s : Stands f starts) where
     low : i < run_length starts
     low = omega (arith, len_is)
 
-    here : Inside f (get_or starts i 0) (get_or starts (i + 1) 0)
+    here : LiesWithin f (get_or starts i 0) (get_or starts (i + 1) 0)
     here = let z : 0 + i ≡ i = omega arith in rw z at (s.inside i low)
 
     pub index_fits : i * 8 < 2 ^ 64
@@ -114,7 +114,7 @@ module _ (f starts : List ℕ) (s : Stands f starts) where
     part_is : take (from + n + 1 - from) (drop from starts) ≡ take (n + 1) (drop from starts)
     part_is = let q : from + n + 1 - from ≡ n + 1 = omega arith in ap (λ (x : ℕ). take x (drop from starts)) q
 
-    inside_from : AllInside f starts from n
+    inside_from : AllWithin f starts from n
     inside_from i k =
         let z : 0 + (from + i) ≡ from + i = omega arith in
         rw z at (s.inside (from + i) (omega (arith, room)))

@@ -12,7 +12,7 @@ use Rattle.records.specs.Design.{stage_of, list_of}
 use Rattle.design.specs.Reading.{head_of, last_of, number_of, place, meaning}
 use Rattle.design.specs.Layout.{Describes}
 use Rattle.records.specs.Inside.Terms.{terms}
-use Rattle.design.specs.Inside.StageLists.{body_at, Inside, AllInside, lists_of}
+use Rattle.design.specs.Inside.StageLists.{body_at, LiesWithin, AllWithin, lists_of}
 use Rattle.design.specs.Layout.{Layout}
 use Rattle.design.specs.Limits.{greatest_records, greatest_terms}
 use Rattle.design.proofs.Limits.{records}
@@ -41,7 +41,7 @@ list_small f y d t l u h = (((described d).formed.stage t u).list l h).size
 module _ (f : List ℕ) (b : Bytes f) (y : Layout) (d : Describes f y) (t : ℕ) (u : t < y.head.k) where
   -- list l: it lies in the file, and its terms are those that the file means
   one : (l N : ℕ) → l < y.head.m * y.head.s → N ≡ number_of y.head t (l + 1)
-      → Inside f (get_or y.starts N 0) (get_or y.starts (N + 1) 0)
+      → LiesWithin f (get_or y.starts N 0) (get_or y.starts (N + 1) 0)
       × (terms (body_at f (get_or y.starts N 0) (get_or y.starts (N + 1) 0)) ≡ list_of (meaning f) t l)
   one l N h e =
       let low : N + 1 < last_of (head_of f) + 1 = (let q = number_low y.head t (l + 1) u (omega arith) in let z = ap last_of d.head in omega arith) in
@@ -67,7 +67,7 @@ module _ (f : List ℕ) (b : Bytes f) (y : Layout) (d : Describes f y) (t : ℕ)
 
   -- n lists from the one numbered `from` on
   module _ (from n first : ℕ) (h : from + n ≤ y.head.m * y.head.s) (e : first ≡ number_of y.head t (from + 1)) where
-    pub lists_inside : AllInside f y.starts first n
+    pub lists_inside : AllWithin f y.starts first n
     lists_inside i k = (one (from + i) (first + i) (omega arith) (ap (λ (q : ℕ). q + i) e ∙ number_from from i)).0
 
     -- their starts and the next are among those that a layout has room for
@@ -93,7 +93,7 @@ module _ (f : List ℕ) (b : Bytes f) (y : Layout) (d : Describes f y) (t : ℕ)
 
 -- the lists of stage t, the first of them numbered first
 pub record Stand (f : List ℕ) (y : Layout) (t first : ℕ) : Type 0 where
-  pub inside : AllInside f y.starts first (y.head.m * y.head.s)
+  pub inside : AllWithin f y.starts first (y.head.m * y.head.s)
   pub known : first + y.head.m * y.head.s < greatest_records
   pub all : lists_of f y.starts first (y.head.m * y.head.s) ≡ (stage_of (meaning f) t).lists
 

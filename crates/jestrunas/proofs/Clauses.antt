@@ -15,7 +15,7 @@ use Rattle.threshold.specs.Running as runs
 use Rattle.threshold.specs.Explained.{RunningExplained}
 use Rattle.records.specs.Writing.{writing_answer}
 use Rattle.checker.specs.Verdict as verdicts
-use Rattle.checker.specs.Verdict.{answer, verdict, workspace_after}
+use Rattle.checker.specs.Verdict.{verdict, workspace_after}
 use Rattle.checker.specs.Trials.{judging, trials, forecast}
 use Rattle.checker.specs.Accepted.{Explained}
 use Rattle.checker.proofs.Exactly.{reason_zero}

@@ -7,7 +7,6 @@ use Prim.Native.Nat.{ℕ, ◌*◌, ◌/◌, ◌^◌, ◌≤◌, ◌<◌}
 use lib.ListN.{length, take, drop}
 use Rattle.reasons.proofs.Numbers as numbers
 use Rattle.anf.specs.Transform.{transform_reason, transform_after, transformed}
-use Rattle.anf.specs.Explained.{TransformExplained}
 use Rattle.anf.proofs.Explained as transforming_explained
 use Rattle.anf.specs.Bench as bench_anf
 use Rattle.anf.proofs.SubsetSums.{subset_sum_twice}
@@ -26,10 +25,9 @@ use Rattle.design.proofs.Limits as limits
 use Rattle.design.proofs.Theorems as design_theorems
 use Rattle.design.proofs.Reasons as reasons
 use Rattle.design.proofs.Bench as design_bench
-use Rattle.sharing.proofs.Depending as depending
+use Rattle.sharing.proofs.IgnoredShares as depending
 use Rattle.sharing.specs.Chain.{read_meetings}
-use Rattle.threshold.specs.Running.{Ran, running}
-use Rattle.threshold.specs.Explained.{RunningExplained}
+use Rattle.threshold.specs.Running.{running}
 use Rattle.threshold.proofs.Explained as running_explained
 use Rattle.sharing.proofs.Stages.{stage_uniform↔counted}
 use Rattle.checker.specs.Verdict.{workspace_after, verdict}
@@ -38,14 +36,13 @@ use Rattle.checker.specs.Assurance.{Assured, Blind}
 use Rattle.checker.specs.Bench as bench_checker
 use Rattle.checker.proofs.Chaining as chain_of_tables
 use Rattle.checker.proofs.Exactly as exactly
-use Rattle.checker.proofs.Explaining as explaining
-use Rattle.checker.proofs.Leaving as leaving
-use Rattle.checker.proofs.Reached as reached
+use Rattle.checker.proofs.VerdictExplained as explaining
+use Rattle.checker.proofs.WorkspaceAfter as leaving
+use Rattle.checker.proofs.IdentityDesign as reached
 use Rattle.checker.proofs.Assurance as assured
 use Rattle.checker.proofs.Trials as counting
 use Rattle.checker.proofs.Bench as checker_bench
 use Rattle.direct.specs.Direct.{Loads, placed, component_for, direct_stage, Shareable, Box}
-use Rattle.producer.specs.Explained.{ProducingExplained}
 use Rattle.producer.proofs.Explained as producing_explained
 use Rattle.producer.specs.Producing.{produced, produced_reason, producing, output_after, Succeeds}
 use Rattle.producer.specs.Bench as bench_producer
@@ -58,7 +55,7 @@ use Rattle.producer.proofs.Terms as producer_terms
 use Rattle.producer.proofs.Room as producer_room
 use Rattle.direct.proofs.Bench as direct_bench
 use Rattle.producer.proofs.Bench as producer_bench
-use Rattle.joiner.specs.Joining.{joined, joined_reason, joining, joined_after, Joinable, JoiningExplained}
+use Rattle.joiner.specs.Joining.{joined, joined_reason, joining, joined_after, Joinable}
 use Rattle.joiner.specs.Bench as bench_joiner
 use Rattle.joiner.proofs.JoinedDesign as joined_form
 use Rattle.joiner.proofs.Reasons as joined_answers
@@ -168,6 +165,10 @@ assurance = assured.assurance
 pub blind : (f : List ℕ) (n : ℕ) → (verdict f n).reason ≡ 0 → (d : Design) × Assured f d × Blind d
 blind = assured.blind
 
+-- The same of a design that is held otherwise than in a file.
+pub sound_assured : promised.SoundAssured
+sound_assured d w a = (assured.sound_assured d w a, assured.sound_blind d w a)
+
 -- ---- Machine time before booking
 
 -- The head record decides the forecast: the first seven bytes of the file, whatever follows.
@@ -250,7 +251,7 @@ pub produced_exactly : (m s : ℕ) (t l : List ℕ) (room : ℕ) → (produced_r
 produced_exactly = success_exactly
 
 -- And every number exactly when it is explained, in the published order.
-pub produced_explained : (m s : ℕ) (t l : List ℕ) (room r : ℕ) → (produced_reason m s t l room ≡ r) ↔ ProducingExplained m s t l room r
+pub produced_explained : promised.ProducingAnswered
 produced_explained = producing_explained.producing_exactly
 
 -- For a permutation table within the limits 21 is answered exactly when the placement does not load.
@@ -298,10 +299,10 @@ output_enough = producer_room.room_enough
 
 -- ---- Running, and the transform: an answer is given exactly when it is explained
 
-pub run_explained : (f l : List ℕ) (v : Ran) → (running f l ≡ v) ↔ RunningExplained f l v
+pub run_explained : promised.RunningAnswered
 run_explained = running_explained.running_exactly
 
-pub transform_explained : (m : ℕ) (input : List ℕ) (room r : ℕ) → (transform_reason m input room ≡ r) ↔ TransformExplained m input room r
+pub transform_explained : promised.TransformAnswered
 transform_explained = transforming_explained.transform_exactly
 
 -- On success the first 2^m bytes of the output are the words, and those past them are untouched; and on a refusal all are.
@@ -338,7 +339,7 @@ joined_runs = joined_run.joined_runs
 pub joined_exactly : (f g : List ℕ) (room : ℕ) → (joined_reason f g room ≡ 0) ↔ ((d : Design) × (e : Design) × Joinable f g d e × (length (joined f g) ≤ room))
 joined_exactly = joined_answers.joined_exactly
 
-pub joined_explained : (f g : List ℕ) (room r : ℕ) → (joined_reason f g room ≡ r) ↔ JoiningExplained f g room r
+pub joined_explained : promised.JoiningAnswered
 joined_explained = joined_answers.joined_explained
 
 -- On success the output starts with the joined file; the bytes past it are untouched; and on a refusal all are.

@@ -10,6 +10,7 @@ use Rattle.anf.specs.NormalForm.{subset_sum, degree}
 use Rattle.anf.specs.Terms.{value_at, IsTermList, names, Depends, passing}
 use Rattle.anf.specs.Points.{Points, IgnoresPoint}
 use Rattle.anf.specs.Transform.{transform_reason, transform_after}
+use Rattle.anf.specs.Explained.{TransformExplained}
 use Rattle.anf.specs.Tables.{entry, Permutation, TableFits}
 use Rattle.design.specs.Limits.{broken, checked, head_answer, WithinLimits}
 use Rattle.design.specs.Layout.{Layout, layout_of, Describes}
@@ -20,14 +21,16 @@ use Rattle.records.specs.Encode.{encode}
 use Rattle.design.specs.Reading.{refused, means, reading}
 use Rattle.design.specs.Refused.{RefusedFor}
 use Rattle.sharing.specs.Stages.{output, component, Correct, Ignores, IgnoresSome, DependsOnAll, NonComplete, Uniform, CountedUniform}
-use Rattle.threshold.specs.Running.{running}
+use Rattle.threshold.specs.Running.{Ran, running}
+use Rattle.threshold.specs.Explained.{RunningExplained}
 use Rattle.checker.specs.Verdict.{Verdict, answer, workspace_for, verdict}
 use Rattle.checker.specs.Trials.{trials_by_outcome, trials, forecast}
-use Rattle.checker.specs.Accepted.{ChainIsBox, TablePermutes, Accepted, Explained}
-use Rattle.checker.specs.Assurance.{Assured, Blind}
+use Rattle.checker.specs.Accepted.{ChainIsBox, TablePermutes, Sound, Accepted, Explained}
+use Rattle.checker.specs.Assurance.{AssuredDesign, Assured, Blind}
 use Rattle.direct.specs.Direct.{is_product, chosen, Loads, placed, component_for, published, direct_stage, direct_sharing, Shareable, Box}
 use Rattle.producer.specs.Producing.{produced, produced_reason, produced_length, produced_most}
-use Rattle.joiner.specs.Joining.{joined_design, joined, joined_reason, Joinable}
+use Rattle.producer.specs.Explained.{ProducingExplained}
+use Rattle.joiner.specs.Joining.{joined_design, joined, joined_reason, Joinable, JoiningExplained}
 use Rattle.jestrunas.specs.JoinedRuns.{running_onward}
 
 -- ---- what clauses of the operations say
@@ -99,6 +102,10 @@ DegreeLimit =
     → ((xs : List ℕ) → Points n s xs → xor_below s (λ j. F j xs) ≡ f (xor_below s (λ j. get_or xs j 0)))
     → (u : ℕ) → u < 2 ^ n → s ≤ ones u → subset_sum n f u ≡ 0
 
+abbrev pub TransformAnswered : Type 0
+TransformAnswered =
+    (m : ℕ) (input : List ℕ) (room r : ℕ) → (transform_reason m input room ≡ r) ↔ TransformExplained m input room r
+
 -- ---- The design file
 
 abbrev pub FileExactly : Type 0
@@ -153,6 +160,14 @@ AcceptedExactly =
 abbrev pub VerdictExplained : Type 0
 VerdictExplained =
     (f : List ℕ) (n : ℕ) (v : Verdict) → (verdict f n ≡ v) ↔ Explained f n v
+
+abbrev pub SoundAssured : Type 0
+SoundAssured =
+    (d : Design) → WellFormed d → Sound d → AssuredDesign d × Blind d
+
+abbrev pub RunningAnswered : Type 0
+RunningAnswered =
+    (f l : List ℕ) (v : Ran) → (running f l ≡ v) ↔ RunningExplained f l v
 
 abbrev pub ChainPermutes : Type 0
 ChainPermutes =
@@ -237,6 +252,10 @@ ProducedJudged =
     (m s n : ℕ) (t l : List ℕ) → Box m s t → Loads s l → degree m (entry t) < s → workspace_for m s ≤ n
     → (verdict (produced m s t l) n ≡ answer 0 1 0) ⊎ (verdict (produced m s t l) n ≡ answer 14 1 0)
 
+abbrev pub ProducingAnswered : Type 0
+ProducingAnswered =
+    (m s : ℕ) (t l : List ℕ) (room r : ℕ) → (produced_reason m s t l room ≡ r) ↔ ProducingExplained m s t l room r
+
 abbrev pub PlacementExactly : Type 0
 PlacementExactly =
     (m s : ℕ) (t l : List ℕ) (room : ℕ) → Box m s t → (produced_reason m s t l room ≡ 21) ↔ ¬ Loads s l
@@ -281,6 +300,10 @@ JoinedAccepted =
 abbrev pub JoinedRuns : Type 0
 JoinedRuns =
     (f g : List ℕ) (d e : Design) → Joinable f g d e → (l : List ℕ) → running (joined f g) l ≡ running_onward g (running f l)
+
+abbrev pub JoiningAnswered : Type 0
+JoiningAnswered =
+    (f g : List ℕ) (room r : ℕ) → (joined_reason f g room ≡ r) ↔ JoiningExplained f g room r
 
 abbrev pub JoinedLength : Type 0
 JoinedLength =

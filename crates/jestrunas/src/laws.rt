@@ -1,19 +1,22 @@
 // The laws that stand on no operation: each function has an empty body, and its contract states them for all inputs.
 #![tactic(auto)]
 
-ghost use Rattle.jestrunas.specs.Promised.{Transform, TransformTwice, UniqueLists, Dependence, DegreeLimit};
+ghost use Rattle.jestrunas.specs.Promised.{Transform, TransformTwice, TransformAnswered, UniqueLists, Dependence, DegreeLimit};
 ghost use Rattle.jestrunas.specs.Promised.{FileExactly, HeadAnswer, ReasonRange, ReadingExplained, OneMeaningOneFile, Reader};
 ghost use Rattle.jestrunas.specs.Promised.{DependsExactly, UniformCounted, Products, ShareableExactly};
-ghost use Rattle.jestrunas.specs.Promised.{AcceptedExactly, VerdictExplained, ChainPermutes, ElevenRetired, ElevenNotGiven, TrialsAccepted, TrialsNone, TrialsOutcome};
+ghost use Rattle.jestrunas.specs.Promised.{AcceptedExactly, VerdictExplained, SoundAssured, RunningAnswered, ChainPermutes};
+ghost use Rattle.jestrunas.specs.Promised.{ElevenRetired, ElevenNotGiven, TrialsAccepted, TrialsNone, TrialsOutcome};
 ghost use Rattle.jestrunas.specs.Promised.{ForecastHead, ForecastRefused, ForecastRange, ForecastReads, ForecastReached};
 ghost use Rattle.jestrunas.specs.Promised.{ProductXy, PublishedThree, PublishedFour, PublishedFive};
-ghost use Rattle.jestrunas.specs.Promised.{ProducedReads, ProducedUsual, ProducedJudged, PlacementExactly, OldPlacement, ProducedSize, ProducedMost, MostMet, OutputEnough};
-ghost use Rattle.jestrunas.specs.Promised.{JoinedReads, JoinedBox, JoinedAccepted, JoinedRuns, JoinedLength, JoinedRoom};
+ghost use Rattle.jestrunas.specs.Promised.{ProducedReads, ProducedUsual, ProducedJudged, ProducingAnswered, PlacementExactly};
+ghost use Rattle.jestrunas.specs.Promised.{OldPlacement, ProducedSize, ProducedMost, MostMet, OutputEnough};
+ghost use Rattle.jestrunas.specs.Promised.{JoinedReads, JoinedBox, JoinedAccepted, JoinedRuns, JoiningAnswered, JoinedLength, JoinedRoom};
 
 // Normal form: terms, lists, degree.
 pub fn about_normal_form()
     ensures transform { Transform }
     ensures transform_twice { TransformTwice }
+    ensures transform_explained { TransformAnswered }
     ensures unique_lists { UniqueLists }
     ensures dependence { Dependence }
     ensures degree_limit { DegreeLimit }
@@ -37,10 +40,12 @@ pub fn about_sharings()
     ensures shareable_exactly { ShareableExactly }
 {}
 
-// The verdict and its trials.
+// The verdict and its trials; running.
 pub fn about_verdicts()
     ensures accepted_exactly { AcceptedExactly }
     ensures verdict_explained { VerdictExplained }
+    ensures sound_assured { SoundAssured }
+    ensures run_explained { RunningAnswered }
     ensures chain_permutes { ChainPermutes }
     ensures eleven_retired { ElevenRetired }
     ensures eleven_not_given { ElevenNotGiven }
@@ -67,6 +72,7 @@ pub fn about_production()
     ensures produced_reads { ProducedReads }
     ensures produced_usual { ProducedUsual }
     ensures produced_judged { ProducedJudged }
+    ensures produced_explained { ProducingAnswered }
     ensures placement_exactly { PlacementExactly }
     ensures old_placement { OldPlacement }
     ensures produced_size { ProducedSize }
@@ -81,6 +87,7 @@ pub fn about_joins()
     ensures joined_box { JoinedBox }
     ensures joined_accepted { JoinedAccepted }
     ensures joined_runs { JoinedRuns }
+    ensures joined_explained { JoiningAnswered }
     ensures joined_length { JoinedLength }
     ensures joined_room { JoinedRoom }
 {}

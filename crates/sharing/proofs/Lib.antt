@@ -3,7 +3,7 @@ pub mod Sharing
 pub mod Output
 pub mod Carried
 pub mod Tests
-pub mod Depending
+pub mod IgnoredShares
 pub mod Tables
 pub mod Stages
 pub mod Spreads

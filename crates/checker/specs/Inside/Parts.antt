@@ -69,12 +69,12 @@ abbrev pub stage_judging : Design → ℕ → Judged
 stage_judging d t = counted (stage_judged d t) (stage_tries d t (stage_judged d t).reason)
 
 -- the same of what the code answers
-abbrev pub fault_of : Option Refusal → Verdict
-fault_of None = answer 0 0 0
-fault_of (Some r) = refused_with r
+abbrev pub found_fault : Option Refusal → Verdict
+found_fault None = answer 0 0 0
+found_fault (Some r) = refused_with r
 
 abbrev pub stage_judged_of : StageJudgement → Judged
-stage_judged_of j = counted (fault_of j.fault) j.trials
+stage_judged_of j = counted (found_fault j.fault) j.trials
 
 -- no table repeats an entry
 unfoldable pub TablesPermute : Design → Type 0

@@ -9,12 +9,12 @@ abbrev pub body_at : List ℕ → ℕ → ℕ → List ℕ
 body_at f start next = take (next - 4 - start) (drop start f)
 
 -- it lies inside the file, and is no longer than a list may be
-abbrev pub Inside : List ℕ → ℕ → ℕ → Type 0
-Inside f start next = (start + 4 ≤ next) × (next ≤ length f + 4) × (next ≤ start + 4 + 4 * greatest_terms)
+abbrev pub LiesWithin : List ℕ → ℕ → ℕ → Type 0
+LiesWithin f start next = (start + 4 ≤ next) × (next ≤ length f + 4) × (next ≤ start + 4 + 4 * greatest_terms)
 
 -- so do n bodies, from the one that the list of starts has at `first` on
-abbrev pub AllInside : List ℕ → List ℕ → ℕ → ℕ → Type 0
-AllInside f starts first n = (i : ℕ) → i < n → Inside f (get_or starts (first + i) 0) (get_or starts (first + i + 1) 0)
+abbrev pub AllWithin : List ℕ → List ℕ → ℕ → ℕ → Type 0
+AllWithin f starts first n = (i : ℕ) → i < n → LiesWithin f (get_or starts (first + i) 0) (get_or starts (first + i + 1) 0)
 
 -- the lists of terms of those bodies
 unfoldable pub lists_of : List ℕ → List ℕ → ℕ → ℕ → List (List ℕ)
@@ -28,7 +28,7 @@ run_length starts = length starts - 1
 pub record Stands (f starts : List ℕ) : Type 0 where
   pub some : 1 ≤ length starts
   pub few : run_length starts ≤ greatest_share_bits
-  pub inside : AllInside f starts 0 (run_length starts)
+  pub inside : AllWithin f starts 0 (run_length starts)
 
 -- its lists of terms
 abbrev pub lists_in : List ℕ → List ℕ → List (List ℕ)

@@ -19,3 +19,6 @@ returns-clause-joined_length c = promises.joined_length
 
 pub returns-clause-joined_room : goal.returns-clause-joined_room
 returns-clause-joined_room c = promises.joined_room
+
+pub returns-clause-joined_explained : goal.returns-clause-joined_explained
+returns-clause-joined_explained c = promises.joined_explained

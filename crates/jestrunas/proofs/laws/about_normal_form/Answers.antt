@@ -16,3 +16,6 @@ returns-clause-dependence c = promises.dependence
 
 pub returns-clause-degree_limit : goal.returns-clause-degree_limit
 returns-clause-degree_limit c = promises.degree_limit
+
+pub returns-clause-transform_explained : goal.returns-clause-transform_explained
+returns-clause-transform_explained c = promises.transform_explained

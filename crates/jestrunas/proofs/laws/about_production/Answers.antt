@@ -40,3 +40,6 @@ returns-clause-published_four c = promises.published_four
 
 pub returns-clause-published_five : goal.returns-clause-published_five
 returns-clause-published_five c = promises.published_five
+
+pub returns-clause-produced_explained : goal.returns-clause-produced_explained
+returns-clause-produced_explained c = promises.produced_explained

@@ -25,3 +25,9 @@ returns-clause-trials_none c = promises.trials_none
 
 pub returns-clause-trials_outcome : goal.returns-clause-trials_outcome
 returns-clause-trials_outcome c = promises.trials_outcome
+
+pub returns-clause-sound_assured : goal.returns-clause-sound_assured
+returns-clause-sound_assured c = promises.sound_assured
+
+pub returns-clause-run_explained : goal.returns-clause-run_explained
+returns-clause-run_explained c = promises.run_explained
