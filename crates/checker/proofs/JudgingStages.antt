@@ -19,7 +19,8 @@ use Rattle.sharing.proofs.Stages.{stage_uniform_repeats}
 use Rattle.checker.specs.Verdict.{Verdict, answer}
 use Rattle.checker.specs.Outcome.{refused_with}
 use Rattle.checker.specs.Trials.{Judged, correctness_at, uniformity_at, both_passes, trials_of, counted}
-use Rattle.checker.specs.Inside.Parts.{TablesPermute, with_trials, stage_judged, stages_judged, found, first_wrong, offending, first_met, FoundBelow, tries_until, stage_tries, stage_judging, found_fault}
+use Rattle.checker.specs.Inside.Parts.{TablesPermute, with_trials, stage_judged, stages_judged, found, first_wrong}
+use Rattle.checker.specs.Inside.Parts.{offending, first_met, FoundBelow, tries_until, stage_tries, stage_judging, found_fault}
 use Rattle.checker.specs.declared.refusals.Refusal.{Refusal}
 use Rattle.checker.specs.declared.refusals.Refusal.TheVariants.{Unreadable, BoxRepeats, WorkspaceTooSmall, ChainIsNotBox, NotCorrect, NotNonComplete, NotUniform}
 use Rattle.design.specs.Errors.{fault_reason}
