@@ -32,7 +32,7 @@ impl Arguments {
                 let (name, value) = parted(bytes);
                 let Some(switch) = switches(command).find(|switch| switch.names.iter().any(|known| known.as_bytes() == name))
                 else {
-                    return misused(unknown(word, command));
+                    return misused(unknown(word, switches(command)));
                 };
                 found.take(switch, value.map(OsStr::to_owned), &mut words)?;
             }
@@ -116,11 +116,11 @@ fn parted(word: &[u8]) -> (&[u8], Option<&OsStr>) {
     }
 }
 
-/// What is told of an option that the command does not have.
-fn unknown(word: &OsStr, command: &Command) -> String {
+/// What is told of an option that is none of these.
+pub fn unknown<'a>(word: &OsStr, switches: impl Iterator<Item = &'a Switch>) -> String {
     let text = shown(word);
     let name = text.split('=').next().unwrap_or_default();
-    let names = switches(command).flat_map(|switch| switch.names).copied().filter(|name| name.starts_with("--"));
+    let names = switches.flat_map(|switch| switch.names).copied().filter(|name| name.starts_with("--"));
     format!("there is no option {name}{}", near::hint(name, names))
 }
 

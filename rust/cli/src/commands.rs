@@ -13,14 +13,15 @@ mod run;
 mod transform;
 mod verilog;
 
-use crate::arguments::Arguments;
-use crate::command::Command;
+use crate::arguments::{self, Arguments};
+use crate::command::{Command, COMMON};
 use crate::design::Design;
 use crate::failure::{tell, Failure, DONE};
 use crate::input::Input;
 use crate::json::Object;
 use crate::{files, near, pages};
 use std::ffi::{OsStr, OsString};
+use std::os::unix::ffi::OsStrExt;
 use std::process::ExitCode;
 
 /// Every command, as help lists them.
@@ -65,6 +66,9 @@ fn start(words: &[OsString]) -> (Option<&'static Command>, bool, Result<u8, Fail
     }
     if first == "--version" || first == "-V" {
         return none(files::answer(pages::VERSION));
+    }
+    if first.as_bytes().starts_with(b"-") {
+        return none(Err(Failure::Misused(arguments::unknown(first, COMMON.iter()))));
     }
     let command = match named(first) {
         Ok(command) => command,

@@ -7,7 +7,10 @@ use std::ffi::OsStr;
 /// A table, or coefficient words, of a width that was given or follows from its length.
 pub struct Table {
     pub m: usize,
+    /// As the library takes them: one above 255 is too large for every table, as 255 is.
     pub entries: Vec<u8>,
+    /// As they were written.
+    pub written: Vec<usize>,
 }
 
 fn misused<T>(words: String) -> Result<T, Failure> {
@@ -25,20 +28,24 @@ impl Table {
     pub fn of(name: &str, word: &OsStr, m: Option<usize>) -> Result<Table, Failure> {
         let text = word.to_string_lossy();
         if text.trim().contains(char::is_whitespace) {
-            let entries = text.split_whitespace().map(|entry| decimal(name, entry)).collect::<Result<Vec<u8>, Failure>>()?;
-            return Ok(Table { m: m.unwrap_or(width(entries.len())), entries });
+            let written = text.split_whitespace().map(|entry| decimal(name, entry)).collect::<Result<Vec<usize>, Failure>>()?;
+            return Ok(Table::written(m.unwrap_or(width(written.len())), written));
         }
         let digits = digits(name, word, "hexadecimal", 16)?;
         // 16 digits are a table of 4 bits, and one of 5 bits has 64
         let m = m.unwrap_or(width(if digits.len() <= 16 { digits.len() } else { digits.len().div_ceil(2) }));
-        Ok(Table { m, entries: unpacked(name, digits, m)? })
+        Ok(Table::written(m, unpacked(name, digits, m)?.into_iter().map(usize::from).collect()))
+    }
+
+    fn written(m: usize, written: Vec<usize>) -> Table {
+        Table { m, entries: written.iter().map(|&entry| entry.try_into().unwrap_or(u8::MAX)).collect(), written }
     }
 }
 
-/// An entry in decimal. One above 255 is too large for every table, as 255 is.
-fn decimal(name: &str, entry: &str) -> Result<u8, Failure> {
+/// An entry in decimal. One too large to be held is too large for every table, as the largest is.
+fn decimal(name: &str, entry: &str) -> Result<usize, Failure> {
     match entry.bytes().all(|digit| digit.is_ascii_digit()) {
-        true => Ok(entry.parse().unwrap_or(u8::MAX)),
+        true => Ok(entry.parse().unwrap_or(usize::MAX)),
         false => misused(format!("{name} with spaces has decimal numbers, and '{}' is none", entry.escape_debug())),
     }
 }

@@ -18,6 +18,7 @@ pub use repeats::Repeats;
 
 use crate::design::Design;
 use crate::json::Object;
+use crate::tables::Table;
 use jestrunas::{Reason, Refusal};
 
 /// How many of a kind are told before it is only said how many more there are.
@@ -62,22 +63,24 @@ impl Why {
             Reason::LimitBroken => Given::head(file).map(Why::Given),
             Reason::EntryTooLarge => {
                 let m = usize::from(file[4]);
-                Given::entry(m, &file[refusal.place + 4..][..1 << m]).map(Why::Given)
+                let table = &file[refusal.place + 4..][..1 << m];
+                Given::entry(m, table.iter().map(|&entry| entry.into())).map(Why::Given)
             }
             _ => None,
         }
     }
 
     /// What is wrong with what was given to produce a sharing of a table, or to transform one.
-    pub fn of_given(m: usize, s: usize, table: &[u8], placement: &[u8], reason: Reason) -> Option<Why> {
+    pub fn of_given(s: usize, table: &Table, placement: &[u8], reason: Reason) -> Option<Why> {
+        let Table { m, ref entries, ref written } = *table;
         match reason {
             Reason::LimitBroken => Given::limit(m, s).map(Why::Given),
-            Reason::WrongLength => Given::entries(m, table).map(Why::Given),
-            Reason::EntryTooLarge => Given::entry(m, table).map(Why::Given),
-            Reason::BoxRepeats => Repeats::of(table).map(Why::Repeats),
+            Reason::WrongLength => Given::entries(m, entries.len()).map(Why::Given),
+            Reason::EntryTooLarge => Given::entry(m, written.iter().copied()).map(Why::Given),
+            Reason::BoxRepeats => Repeats::of(entries).map(Why::Repeats),
             Reason::DegreeTooHigh => {
-                let mut words = vec![0; table.len()];
-                jestrunas::transform(m, table, &mut words).ok()?;
+                let mut words = vec![0; entries.len()];
+                jestrunas::transform(m, entries, &mut words).ok()?;
                 Some(Why::Degrees(Degrees::of(m, &words)))
             }
             Reason::BadPlacement => Given::placement(s, placement).map(Why::Given),

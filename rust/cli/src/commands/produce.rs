@@ -44,18 +44,18 @@ fn produce(arguments: &Arguments) -> Result<u8, Failure> {
     ways::check(arguments)?;
     let m = arguments.value("-m").map(|word| number("-m", word)).transpose()?;
     let s = number("-s", arguments.due("-s"))?;
-    let Table { m, entries } = Table::of("a table", arguments.operand(0), m)?;
+    let table = Table::of("a table", arguments.operand(0), m)?;
     let made = if arguments.has("--universal") {
-        ways::by_construction(m, s, &entries)?
+        ways::by_construction(s, &table)?
     } else if arguments.has("--search") {
-        ways::by_search(arguments, m, s, &entries)?
+        ways::by_search(arguments, s, &table)?
     } else {
         let placement = match arguments.value("--placement") {
             Some(word) => placement("a placement", word)?,
             None => published_placement(s).to_owned(),
         };
-        let file = jestrunas::produce(m, s, &entries, &placement)
-            .map_err(|reason| Failure::reason(reason, Why::of_given(m, s, &entries, &placement, reason)))?;
+        let file = jestrunas::produce(table.m, s, &table.entries, &placement)
+            .map_err(|reason| Failure::reason(reason, Why::of_given(s, &table, &placement, reason)))?;
         Made { file, ..Made::default() }
     };
     let status = write(arguments, &made.file, &[], made.json)?;

@@ -35,10 +35,11 @@ fn transform(arguments: &Arguments) -> Result<u8, Failure> {
         [m, word] => (Some(number("m", m)?), word),
         operands => (None, &operands[0]),
     };
-    let Table { m, entries } = Table::of("a table", word, m)?;
-    let mut output = vec![0; entries.len()];
-    jestrunas::transform(m, &entries, &mut output)
-        .map_err(|reason| Failure::reason(reason, Why::of_given(m, SHARES_MIN, &entries, &[], reason)))?;
+    let table = Table::of("a table", word, m)?;
+    let m = table.m;
+    let mut output = vec![0; table.entries.len()];
+    jestrunas::transform(m, &table.entries, &mut output)
+        .map_err(|reason| Failure::reason(reason, Why::of_given(SHARES_MIN, &table, &[], reason)))?;
     let formulas = arguments.has("--formulas");
     if arguments.has("--json") {
         let answer = Object::new().with("m", m).with("words", list(&output));

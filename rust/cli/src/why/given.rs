@@ -19,7 +19,7 @@ pub enum Given {
     /// 3: a table has not the entries that are due.
     Entries { entries: usize, due: usize },
     /// 5: the first entry that is too large.
-    Entry { at: usize, entry: u8, most: usize },
+    Entry { at: usize, entry: usize, most: usize },
     /// 15: the first share that is too large, counted from 1.
     Share { share: usize, value: usize, most: usize },
     /// 19: two designs of different size, m and s of each.
@@ -60,16 +60,16 @@ impl Given {
     }
 
     /// How many entries a table has and should have.
-    pub fn entries(m: usize, table: &[u8]) -> Option<Given> {
+    pub fn entries(m: usize, entries: usize) -> Option<Given> {
         let due = 1 << m;
-        (table.len() != due).then_some(Given::Entries { entries: table.len(), due })
+        (entries != due).then_some(Given::Entries { entries, due })
     }
 
     /// Which entry is too large.
-    pub fn entry(m: usize, table: &[u8]) -> Option<Given> {
+    pub fn entry(m: usize, table: impl IntoIterator<Item = usize>) -> Option<Given> {
         let most = (1 << m) - 1;
-        let at = table.iter().position(|&entry| usize::from(entry) > most)?;
-        Some(Given::Entry { at, entry: table[at], most })
+        let (at, entry) = table.into_iter().enumerate().find(|&(_, entry)| entry > most)?;
+        Some(Given::Entry { at, entry, most })
     }
 
     pub fn sizes(first: &Design, second: &Design) -> Given {

@@ -17,7 +17,7 @@ fn produce() {
     for (line, words) in [
         ("-s 3 0123456", "3: a length is not the one due: 7 entries of 8, which is 2^m"),
         ("-s 3 '0 1 2 3 4 5 6'", "3: a length is not the one due: 7 entries of 8, which is 2^m"),
-        ("-s 3 '0 256'", "5: an entry is 2^m or more: the entry of 1 is 255, at most 1, which is 2^m - 1"),
+        ("-s 3 '0 256'", "5: an entry is 2^m or more: the entry of 1 is 256, at most 1, which is 2^m - 1"),
         ("-m 1 -s 2 01", "4: a number breaks a limit: s is 2, and 3 to 5 are allowed"),
         ("-m 5 -s 5 01", "4: a number breaks a limit: s is 5 and m is 5: m × s is 25, at most 20"),
         ("-m 0 -s 3 0", "4: a number breaks a limit: m is 0, and 1 to 6 are allowed"),

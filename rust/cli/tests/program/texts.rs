@@ -33,6 +33,19 @@ fn formulas_are_multiplied_out() {
 }
 
 #[test]
+fn a_text_begins_behind_a_byte_order_mark() {
+    let text = "\u{feff}m 1\ns 3\nS 01\nstage\ncyclic\ny1[0] = x2[0]\n";
+    let shown = shell_with("jestrunas assemble - -o - | cmp - designs/d.bin", text.as_bytes());
+    assert_eq!((shown.status, shown.err.as_str()), (0, ""));
+    // the mark is no column
+    let shown = shell_with("jestrunas judge -", text.replace("m 1", "m 9").as_bytes());
+    assert_eq!(
+        (shown.status, shown.err.as_str()),
+        (1, "jestrunas: -:1:3: m, a number from 1 to 6, was due, and '9' stands here\n")
+    );
+}
+
+#[test]
 fn a_product_is_not_longer_than_a_formula() {
     // thirteen sums of a variable and 1: 8,192 terms
     let product: Vec<String> = (0..13).map(|i| format!("~x{}[{}]", i / 5 + 1, i % 5)).collect();

@@ -8,7 +8,8 @@ fn wrong_use() {
     misused("jestrunas", "a command is due");
     misused("jestrunas jugde designs/d.bin", "there is no command jugde; the nearest is judge");
     misused("jestrunas frobnicate", "there is no command frobnicate");
-    misused("jestrunas -x", "there is no command -x");
+    misused("jestrunas -x", "there is no option -x");
+    misused("jestrunas --vresion", "there is no option --vresion; the nearest is --version");
     tells("jestrunas help jion", 2, "jestrunas help: there is no command jion; the nearest is join; see 'jestrunas help --help'");
     for (command, line, words) in [
         ("judge", "", "a design file is due"),

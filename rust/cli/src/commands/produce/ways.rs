@@ -6,6 +6,7 @@ use crate::files;
 use crate::json::{list, Object};
 use crate::progress::Progress;
 use crate::search::{search, Outcome};
+use crate::tables::Table;
 use crate::universal::{universal, Unmade};
 use crate::verdict::counted;
 use crate::why::Why;
@@ -25,8 +26,8 @@ pub fn check(arguments: &Arguments) -> Result<(), Failure> {
 }
 
 /// A refusal of what was given, whatever the placement.
-fn refused(m: usize, s: usize, table: &[u8], reason: Reason) -> Failure {
-    Failure::reason(reason, Why::of_given(m, s, table, published_placement(s), reason))
+fn refused(s: usize, table: &Table, reason: Reason) -> Failure {
+    Failure::reason(reason, Why::of_given(s, table, published_placement(s), reason))
 }
 
 /// What is made: a design file, what is told of it, and the same as JSON.
@@ -38,11 +39,11 @@ pub struct Made {
 }
 
 /// The universal construction.
-pub fn by_construction(m: usize, s: usize, table: &[u8]) -> Result<Made, Failure> {
-    match universal(m, s, table) {
+pub fn by_construction(s: usize, table: &Table) -> Result<Made, Failure> {
+    match universal(table.m, s, &table.entries) {
         Ok(file) => Ok(Made { file, ..Made::default() }),
-        Err(Unmade::Given(reason)) => Err(refused(m, s, table, reason)),
-        Err(Unmade::Verdict(refusal)) => Err(refused(m, s, table, refusal.reason)),
+        Err(Unmade::Given(reason)) => Err(refused(s, table, reason)),
+        Err(Unmade::Verdict(refusal)) => Err(refused(s, table, refusal.reason)),
         Err(unmade @ Unmade::Degree { degree, .. }) => {
             let words = unmade.to_string();
             let json = Object::new().with("words", words.as_str()).with("degree", degree);
@@ -52,16 +53,16 @@ pub fn by_construction(m: usize, s: usize, table: &[u8]) -> Result<Made, Failure
 }
 
 /// By a placement that the library accepts, which is told.
-pub fn by_search(arguments: &Arguments, m: usize, s: usize, table: &[u8]) -> Result<Made, Failure> {
+pub fn by_search(arguments: &Arguments, s: usize, table: &Table) -> Result<Made, Failure> {
     let most = number("--search", arguments.value("--search").unwrap_or_default())?;
     let seed = arguments.value("--seed").map_or(Ok(0), |word| number("--seed", word))?;
     if most == 0 {
         return Err(Failure::Misused("--search is 1 or more".to_owned()));
     }
     let progress = Progress::of(most);
-    let found = search(m, s, table, most, seed as u64, |tried| progress.show(tried));
+    let found = search(table.m, s, &table.entries, most, seed as u64, |tried| progress.show(tried));
     progress.clear();
-    match found.map_err(|reason| refused(m, s, table, reason))? {
+    match found.map_err(|reason| refused(s, table, reason))? {
         Outcome::NotUniform { tries, all } => {
             let words = match all {
                 true => format!("none of the {tries} placements that there are makes it uniform"),
