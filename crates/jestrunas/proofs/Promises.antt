@@ -50,14 +50,14 @@ use Rattle.checker.proofs.Exactly as exactly
 use Rattle.checker.proofs.Assurance as assured
 use Rattle.checker.proofs.Trials as counting
 use Rattle.checker.proofs.Bench as checker_bench
-use Rattle.direct.specs.Direct.{is_product, chosen, Loads, placed, component_for, published, direct_stage, direct_sharing, Shareable, Box}
+use Rattle.direct.specs.Direct.{is_product, chosen, Loads, placed, component_for, published, placement_3, placement_4, placement_5, direct_stage, direct_sharing, Shareable, Box}
 use Rattle.producer.specs.Producing.{produced, produced_reason, producing, output_after, Succeeds, produced_length, produced_most}
 use Rattle.producer.specs.Bench as bench_producer
 use Rattle.producer.proofs.Theorems.{produced_sound, success_exactly, twenty_one_exactly, published_placement, sixteen_exactly, output_file, output_rest, output_refused}
 use Rattle.direct.proofs.Shareable as shareable
 use Rattle.direct.proofs.Stage as direct_stage_lem
 use Rattle.direct.proofs.Counts.{products_count}
-use Rattle.direct.proofs.Loading.{placed_outside}
+use Rattle.direct.proofs.PlacementTables.{placed_outside}
 use Rattle.producer.proofs.Terms as producer_terms
 use Rattle.producer.proofs.Room as producer_room
 use Rattle.direct.proofs.Bench as direct_bench
@@ -202,14 +202,13 @@ pub product_xy : passing (2 ^ 6) (λ p. is_product 2 3 3 p && eqb (component_for
 product_xy = direct_bench.xy_first
 
 -- The published placements: the rule as tables, for three, four and five shares.
-pub published_three : published 3 ≡ 3 ∷ 1 ∷ 3 ∷ 2 ∷ 2 ∷ 1 ∷ []
+pub published_three : published 3 ≡ placement_3
 published_three = direct_bench.published_three
 
-pub published_four : published 4 ≡ 4 ∷ 1 ∷ 4 ∷ 2 ∷ 2 ∷ 1 ∷ 4 ∷ 3 ∷ 3 ∷ 1 ∷ 3 ∷ 2 ∷ 2 ∷ 1 ∷ []
+pub published_four : published 4 ≡ placement_4
 published_four = direct_bench.published_four
 
-pub published_five : published 5
-    ≡ 5 ∷ 1 ∷ 5 ∷ 2 ∷ 2 ∷ 1 ∷ 5 ∷ 3 ∷ 3 ∷ 1 ∷ 3 ∷ 2 ∷ 2 ∷ 1 ∷ 5 ∷ 4 ∷ 4 ∷ 1 ∷ 4 ∷ 2 ∷ 2 ∷ 1 ∷ 4 ∷ 3 ∷ 3 ∷ 1 ∷ 3 ∷ 2 ∷ 2 ∷ 1 ∷ []
+pub published_five : published 5 ≡ placement_5
 published_five = direct_bench.published_five
 
 -- ---- Producing

@@ -1,5 +1,5 @@
 use Rattle.design.proofs.Limits.{one_stage}
-use Rattle.direct.proofs.Loading.{shares_within}
+use Rattle.direct.proofs.PlacementTables.{shares_within}
 use Rattle.direct.proofs.Rule.new.Goals as goal
 
 pub loads-requires : goal.loads-requires
