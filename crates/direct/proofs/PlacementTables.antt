@@ -166,5 +166,8 @@ of_none s a b c = at (dec_lt s 3) (dec_lt 5 s)
 -- ---- `Rule::new`: the head has k stages
 
 module _ (m s k : ℕ) (limits : broken m s k ≡ false) where
-  pub shares_within : (1 ≤ s) × (s ≤ greatest_shares)
-  shares_within = omega (arith, (bounds m s k limits).s_low, (bounds m s k limits).s_high)
+  pub shares_some : 1 ≤ s
+  shares_some = omega (arith, (bounds m s k limits).s_low)
+
+  pub shares_few : s ≤ greatest_shares
+  shares_few = (bounds m s k limits).s_high
