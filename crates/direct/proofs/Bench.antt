@@ -10,7 +10,7 @@ use Rattle.finite.specs.Sets.{subset, has}
 use Rattle.anf.specs.NormalForm.{subset_sum}
 use Rattle.anf.specs.Terms.{passing}
 use Rattle.sharing.specs.Sharing.{share}
-use Rattle.direct.specs.Direct.{is_product, chosen, placed, component_for, published, stands, direct_list, direct_lists, direct_stage}
+use Rattle.direct.specs.Direct.{is_product, chosen, placed, component_for, published, placement_3, placement_4, placement_5, stands, direct_list, direct_lists, direct_stage}
 
 -- the definitions that computing opens
 unfoldable computing : ℕ
@@ -32,15 +32,14 @@ unfolding computing
 xy_first = refl
 
 -- the published placements
-pub published_three : published 3 ≡ 3 ∷ 1 ∷ 3 ∷ 2 ∷ 2 ∷ 1 ∷ []
+pub published_three : published 3 ≡ placement_3
 unfolding computing
 published_three = refl
 
-pub published_four : published 4 ≡ 4 ∷ 1 ∷ 4 ∷ 2 ∷ 2 ∷ 1 ∷ 4 ∷ 3 ∷ 3 ∷ 1 ∷ 3 ∷ 2 ∷ 2 ∷ 1 ∷ []
+pub published_four : published 4 ≡ placement_4
 unfolding computing
 published_four = refl
 
-pub published_five : published 5
-    ≡ 5 ∷ 1 ∷ 5 ∷ 2 ∷ 2 ∷ 1 ∷ 5 ∷ 3 ∷ 3 ∷ 1 ∷ 3 ∷ 2 ∷ 2 ∷ 1 ∷ 5 ∷ 4 ∷ 4 ∷ 1 ∷ 4 ∷ 2 ∷ 2 ∷ 1 ∷ 4 ∷ 3 ∷ 3 ∷ 1 ∷ 3 ∷ 2 ∷ 2 ∷ 1 ∷ []
+pub published_five : published 5 ≡ placement_5
 unfolding computing
 published_five = refl

@@ -4,11 +4,11 @@ pub mod Expansion
 pub mod Counts
 pub mod Placement
 pub mod Stage
-pub mod Formed
+pub mod WellFormed
 pub mod Shareable
-pub mod Emitting
-pub mod Choosing
-pub mod Gathering
-pub mod Loading
-pub mod Stepping
+pub mod Emission
+pub mod Extensions
+pub mod DirectList
+pub mod PlacementTables
+pub mod RuleLists
 pub mod Bench

@@ -58,6 +58,16 @@ component_for s J = pick (eqb J 0) 0 (first s (λ c. not (has J c) && has J (aft
 unfoldable pub published : ℕ → List ℕ
 published s = pick (leb least_shares s && leb s greatest_shares) (tabulate (2 ^ s - 2) (λ i. component_for s (i + 1) + 1)) []
 
+-- the same, byte by byte: the theorems `published_three`, `published_four` and `published_five` say so
+abbrev pub placement_3 : List ℕ
+placement_3 = 3 ∷ 1 ∷ 3 ∷ 2 ∷ 2 ∷ 1 ∷ []
+
+abbrev pub placement_4 : List ℕ
+placement_4 = 4 ∷ 1 ∷ 4 ∷ 2 ∷ 2 ∷ 1 ∷ 4 ∷ 3 ∷ 3 ∷ 1 ∷ 3 ∷ 2 ∷ 2 ∷ 1 ∷ []
+
+abbrev pub placement_5 : List ℕ
+placement_5 = 5 ∷ 1 ∷ 5 ∷ 2 ∷ 2 ∷ 1 ∷ 5 ∷ 3 ∷ 3 ∷ 1 ∷ 3 ∷ 2 ∷ 2 ∷ 1 ∷ 5 ∷ 4 ∷ 4 ∷ 1 ∷ 4 ∷ 2 ∷ 2 ∷ 1 ∷ 4 ∷ 3 ∷ 3 ∷ 1 ∷ 3 ∷ 2 ∷ 2 ∷ 1 ∷ []
+
 -- ---- the sharing by a placement
 
 -- With the coefficient words of a box: p stands in the list of bit b of component c. It is a product of a term of output bit b, and goes to component c.

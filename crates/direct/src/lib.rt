@@ -1,13 +1,12 @@
 // The direct sharing: the placement, the expansion of terms into products, and the list of one bit of one component.
 #![tactic(auto)]
 
-ghost use Rattle.std.specs.Prelude.{◌≡◌, false, MatchResult, ◌+◌, ◌-◌, ◌^◌, ◌<◌, ◌≤◌, length, get_or};
+ghost use Rattle.std.specs.Prelude.{◌≡◌, false, ◌+◌, ◌-◌, ◌^◌, ◌<◌, ◌≤◌, length};
 ghost use Rattle.std.specs.Int.Bits.{bit_or};
 ghost use Rattle.finite.specs.Sets.{has as has_element};
 ghost use Rattle.design.specs.Limits.{greatest_shares, greatest_terms, broken};
 ghost use Rattle.design.specs.Inside.Inserting.{inserted_all};
-ghost use Rattle.direct.specs.Direct.{is_outside, loads, published, direct_list};
-ghost use Rattle.direct.specs.Inside.Expanding.{emitted};
+ghost use Rattle.direct.specs.Direct.{is_outside, loads, published};
 
 use design::{Head, TermList};
 use finite::power;
@@ -55,7 +54,8 @@ fn with(x: u32, i: usize) -> u32
 
 // The set x without its element i.
 fn without(x: u32, i: usize) -> u32
-    requires { (2 ^ i ≤ x) × (i < 32) }
+    requires there { 2 ^ i ≤ x }
+    requires low { i < 32 }
     ensures { result ≡ x - 2 ^ i }
 {
     x - (1 << i)
@@ -73,14 +73,17 @@ fn is_outside(s: usize, set: u32, c: u8) -> bool
 
 // Whether the placement loads.
 fn loads(s: usize, placement: &[u8]) -> bool
-    requires { (1 ≤ s) × (s ≤ greatest_shares) }
+    requires some { 1 ≤ s }
+    requires few { s ≤ greatest_shares }
     ensures { result ≡ loads s placement.now }
 {
     let sets = power(s) - 2;
     placement.len() == sets
         && (0..sets).all(
             |i|
-                requires { (s ≤ greatest_shares) × (i < 2 ^ s - 2) × (length placement.now ≡ 2 ^ s - 2) }
+                requires few { s ≤ greatest_shares }
+                requires set { i < 2 ^ s - 2 }
+                requires sets { length placement.now ≡ 2 ^ s - 2 }
             { is_outside(s, i as u32 + 1, placement[i]) },
         )
 }
@@ -95,11 +98,11 @@ pub struct Rule<'a> {
 }
 
 impl Rule<'_> {
-    ghost use Rattle.direct.specs.Inside.Placing.{Ruled, place_by};
+    ghost use Rattle.direct.specs.Inside.Placing.{RuleBy, place_by, emits, list_by};
 
     /// The rule of a head with a placement, if it loads.
     pub fn new<'a>(head: Head, placement: &'a [u8]) -> Result<Rule<'a>, Reason>
-        ensures { MatchResult result (Ruled head.m head.s placement.now) (λ e. (e ≡ Reason.BadPlacement) × (loads head.s placement.now ≡ false)) }
+        ensures { RuleBy head.m head.s placement.now result }
     {
         if !loads(head.s, placement) {
             return Err(Reason::BadPlacement);
@@ -129,8 +132,8 @@ impl Rule<'_> {
     // component `to`.
     fn expand(&self, u: u32, to: usize, p: u32, chosen: u32, list: &mut TermList)
         requires within { u < 2 ^ self.now.m }
-        requires room { length list.old + length (emitted self.now.m self.now.s (place_by self.now) u to self.now.m p chosen) ≤ greatest_terms }
-        ensures { list.new ≡ inserted_all (emitted self.now.m self.now.s (place_by self.now) u to self.now.m p chosen) list.old }
+        requires room { length list.old + length (emits self.now u to p chosen) ≤ greatest_terms }
+        ensures { list.new ≡ inserted_all (emits self.now u to p chosen) list.old }
     {
         if u == 0 {
             if self.component(chosen) == to {
@@ -148,8 +151,9 @@ impl Rule<'_> {
 
     /// Gathers the list of bit b of the component `to` from the coefficient words.
     pub fn gather(&self, words: &[u8], to: usize, b: usize, list: &mut TermList)
-        requires { (b < self.now.m) × (2 ^ self.now.m ≤ length words.now) }
-        ensures { list.new ≡ direct_list self.now.m self.now.s (place_by self.now) (λ u. get_or words.now u 0) to b }
+        requires bit { b < self.now.m }
+        requires entries { 2 ^ self.now.m ≤ length words.now }
+        ensures { list.new ≡ list_by self.now words.now to b }
     {
         list.clear();
         for (u, word) in words[..power(self.m)].iter().enumerate() {

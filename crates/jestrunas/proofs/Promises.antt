@@ -50,7 +50,7 @@ use Rattle.producer.proofs.Theorems.{produced_sound, success_exactly, twenty_one
 use Rattle.direct.proofs.Shareable as shareable
 use Rattle.direct.proofs.Stage as direct_stage_lem
 use Rattle.direct.proofs.Counts.{products_count}
-use Rattle.direct.proofs.Loading.{placed_outside}
+use Rattle.direct.proofs.PlacementTables.{placed_outside}
 use Rattle.producer.proofs.Terms as producer_terms
 use Rattle.producer.proofs.Room as producer_room
 use Rattle.direct.proofs.Bench as direct_bench

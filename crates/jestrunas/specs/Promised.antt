@@ -27,7 +27,7 @@ use Rattle.checker.specs.Verdict.{Verdict, answer, workspace_for, verdict}
 use Rattle.checker.specs.Trials.{trials_by_outcome, trials, forecast}
 use Rattle.checker.specs.Accepted.{ChainIsBox, TablePermutes, Sound, Accepted, Explained}
 use Rattle.checker.specs.Assurance.{AssuredDesign, Assured, Blind}
-use Rattle.direct.specs.Direct.{is_product, chosen, Loads, placed, component_for, published, direct_stage, direct_sharing, Shareable, Box}
+use Rattle.direct.specs.Direct.{is_product, chosen, Loads, placed, component_for, published, placement_3, placement_4, placement_5, direct_stage, direct_sharing, Shareable, Box}
 use Rattle.producer.specs.Producing.{produced, produced_reason, produced_length, produced_most}
 use Rattle.producer.specs.Explained.{ProducingExplained}
 use Rattle.joiner.specs.Joining.{joined_design, joined, joined_reason, Joinable, JoiningExplained}
@@ -225,16 +225,15 @@ ProductXy =
 
 abbrev pub PublishedThree : Type 0
 PublishedThree =
-    published 3 ≡ 3 ∷ 1 ∷ 3 ∷ 2 ∷ 2 ∷ 1 ∷ []
+    published 3 ≡ placement_3
 
 abbrev pub PublishedFour : Type 0
 PublishedFour =
-    published 4 ≡ 4 ∷ 1 ∷ 4 ∷ 2 ∷ 2 ∷ 1 ∷ 4 ∷ 3 ∷ 3 ∷ 1 ∷ 3 ∷ 2 ∷ 2 ∷ 1 ∷ []
+    published 4 ≡ placement_4
 
 abbrev pub PublishedFive : Type 0
 PublishedFive =
-    published 5
-    ≡ 5 ∷ 1 ∷ 5 ∷ 2 ∷ 2 ∷ 1 ∷ 5 ∷ 3 ∷ 3 ∷ 1 ∷ 3 ∷ 2 ∷ 2 ∷ 1 ∷ 5 ∷ 4 ∷ 4 ∷ 1 ∷ 4 ∷ 2 ∷ 2 ∷ 1 ∷ 4 ∷ 3 ∷ 3 ∷ 1 ∷ 3 ∷ 2 ∷ 2 ∷ 1 ∷ []
+    published 5 ≡ placement_5
 
 abbrev pub ProducedReads : Type 0
 ProducedReads =

@@ -24,7 +24,7 @@ use Rattle.anf.specs.Tables.{TableFits}
 use Rattle.design.proofs.Limits.{bounds, head_number}
 use Rattle.direct.specs.Direct.{loads, Loads, placed, direct_lists, direct_stage, direct_sharing}
 use Rattle.direct.proofs.Stage.{lists_congr}
-use Rattle.direct.proofs.Loading.{loaded}
+use Rattle.direct.proofs.PlacementTables.{loaded}
 use Rattle.producer.specs.Producing.{produced, produced_reason, produced_length}
 use Rattle.producer.specs.Inside.Filing.{one_stage_file}
 use Rattle.producer.proofs.Terms.{length_congr, produced_size}

@@ -29,9 +29,9 @@ use Rattle.sharing.specs.Chain.{chained}
 use Rattle.direct.specs.Direct.{loads, Loads, placed, component_for, published, direct_stage, direct_sharing, Shareable, Box}
 use Rattle.producer.specs.Producing.{produced, produced_reason, Succeeds, output_after}
 use Rattle.producer.proofs.Tests.{TableTested, table_tested, reason_placement, reason_degree, reason_last}
-use Rattle.direct.proofs.Loading.{loaded, loading, placed_outside, published_loads, published_rule}
+use Rattle.direct.proofs.PlacementTables.{loaded, loading, placed_outside, published_loads, published_rule}
 use Rattle.direct.proofs.Stage.{sharing_congr, direct_correct, direct_non_complete}
-use Rattle.direct.proofs.Formed.{sharing_formed}
+use Rattle.direct.proofs.WellFormed.{sharing_formed}
 use Rattle.direct.proofs.Shareable.{shareable_low, low_shareable}
 
 -- what is known where every test but the last has passed, and n is answered

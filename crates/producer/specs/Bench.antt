@@ -2,6 +2,7 @@
 use Rattle.std.specs.Prelude.{ℕ, List, [], ◌∷◌, ◌++◌}
 use Rattle.finite.specs.Tests.{tabulate}
 use Rattle.records.specs.Writing.{Produced}
+use Rattle.direct.specs.Direct.{placement_3}
 
 pub record ProducingRow : Type 0 where
   pub m : ℕ
@@ -22,10 +23,7 @@ abbrev no : ℕ → ℕ → List ℕ → List ℕ → ℕ → ℕ → ProducingR
 no m s t l room reason =
     record { m = m; s = s; table = t; placement = l; output = tabulate room (λ i. 9); answer = record { reason = reason; length = 0 }; after = tabulate room (λ i. 9) }
 
--- the published placement for three shares, and another
-abbrev three : List ℕ
-three = 3 ∷ 1 ∷ 3 ∷ 2 ∷ 2 ∷ 1 ∷ []
-
+-- a placement for three shares that is not the published one
 abbrev other : List ℕ
 other = 2 ∷ 3 ∷ 3 ∷ 1 ∷ 2 ∷ 1 ∷ []
 
@@ -58,17 +56,17 @@ cubic = 0 ∷ 1 ∷ 2 ∷ 3 ∷ 4 ∷ 5 ∷ 6 ∷ 7 ∷ 8 ∷ 9 ∷ 10 ∷ 11 �
 abbrev pub rows : List ProducingRow
 rows =
     -- 1 0 with three shares, into an output that it fills and into one that is longer
-    row 1 3 (1 ∷ 0 ∷ []) three 51 51 file51 ∷
-    row 1 3 (1 ∷ 0 ∷ []) three 53 51 (file51 ++ (9 ∷ 9 ∷ [])) ∷
+    row 1 3 (1 ∷ 0 ∷ []) placement_3 51 51 file51 ∷
+    row 1 3 (1 ∷ 0 ∷ []) placement_3 53 51 (file51 ++ (9 ∷ 9 ∷ [])) ∷
     -- by another placement
     row 1 3 (1 ∷ 0 ∷ []) other 51 51 placed51 ∷
     -- an output that is one byte too short
-    no 1 3 (1 ∷ 0 ∷ []) three 50 17 ∷
+    no 1 3 (1 ∷ 0 ∷ []) placement_3 50 17 ∷
     -- a limit broken, a table of another size, an entry that is too large, one that repeats, also where the placement does not load
     no 4 2 [] [] 0 4 ∷
-    no 1 3 (1 ∷ 0 ∷ 0 ∷ []) three 60 3 ∷
-    no 1 3 (1 ∷ 2 ∷ []) three 60 5 ∷
-    no 1 3 (1 ∷ 1 ∷ []) three 60 8 ∷
+    no 1 3 (1 ∷ 0 ∷ 0 ∷ []) placement_3 60 3 ∷
+    no 1 3 (1 ∷ 2 ∷ []) placement_3 60 5 ∷
+    no 1 3 (1 ∷ 1 ∷ []) placement_3 60 8 ∷
     no 1 3 (1 ∷ 1 ∷ []) [] 60 8 ∷
     -- a placement of five bytes, of seven, with a byte 0, with a byte 4, with set 1 sent to component 1, whose share it has
     no 1 3 (1 ∷ 0 ∷ []) (3 ∷ 1 ∷ 3 ∷ 2 ∷ 2 ∷ []) 60 21 ∷
@@ -77,6 +75,6 @@ rows =
     no 1 3 (1 ∷ 0 ∷ []) (4 ∷ 1 ∷ 3 ∷ 2 ∷ 2 ∷ 1 ∷ []) 60 21 ∷
     no 1 3 (1 ∷ 0 ∷ []) (1 ∷ 1 ∷ 3 ∷ 2 ∷ 2 ∷ 1 ∷ []) 60 21 ∷
     -- degree 3 with three shares, and with a placement that does not load
-    no 4 3 cubic three 2 16 ∷
+    no 4 3 cubic placement_3 2 16 ∷
     no 4 3 cubic [] 2 21 ∷
     []

@@ -4,7 +4,7 @@ use Rattle.std.proofs.lemmas.Iterator.{YieldsList-from_range}
 use Rattle.std.proofs.lemmas.Iterator.Search.{all_from_yields_List}
 use Rattle.finite.proofs.Lists.{all_range}
 use Rattle.direct.specs.Direct.{is_outside}
-use Rattle.direct.proofs.Loading.{two_sets, size_right, size_wrong}
+use Rattle.direct.proofs.PlacementTables.{two_sets, size_right, size_wrong}
 use Rattle.direct.proofs.loads.Goals as goal
 
 pub overflow_sub-sets : goal.overflow_sub-sets

@@ -1,5 +1,5 @@
 -- Each number of shares has its table.
-use Rattle.direct.proofs.Loading.{of_three, of_four, of_five, of_none}
+use Rattle.direct.proofs.PlacementTables.{of_three, of_four, of_five, of_none}
 use Rattle.direct.proofs.published_placement.Goals as goal
 
 pub returns-in-3 : goal.returns-in-3

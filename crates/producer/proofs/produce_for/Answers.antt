@@ -25,7 +25,7 @@ pub returns-in_err-rule : goal.returns-in_err-rule
 returns-in_err-rule c =
     let p = err_from_is_err_and c.from_residual-in_err-rule.result c.from_residual-in_err-rule.ensures.1 in
     let e = c.in_ok-transform.ensures in
-    rw (p.1, p.2, c.in_err-rule.ensures.0) (answered (search (unloaded, c.in_err-rule.ensures.1)))
+    rw (p.1, p.2, c.in_err-rule.ensures.reason) (answered (search (unloaded, c.in_err-rule.ensures.unloaded)))
 
 pub returns-then-head-degree : goal.returns-then-head-degree
 returns-then-head-degree c =

@@ -1,8 +1,8 @@
 -- Where no variable is left, the product is put into its place; else one share after the other is chosen for the highest variable, and what is left of the
--- term has fewer. The laws are those of Stepping.
-use Rattle.direct.proofs.Emitting.{appended_zero}
-use Rattle.direct.proofs.Stepping.{room_here, goes_here, goes_elsewhere, fewer_left, left_within, row_fits, place_fits, place_low, share_low}
-use Rattle.direct.proofs.Stepping.{room_share, shares_more, shares_all}
+-- term has fewer.
+use Rattle.direct.proofs.Emission.{appended_zero}
+use Rattle.direct.proofs.RuleLists.{room_here, goes_here, goes_elsewhere, fewer_left, left_within, row_fits, place_fits, place_low, share_low}
+use Rattle.direct.proofs.RuleLists.{room_share, shares_more, shares_all}
 use Rattle.direct.proofs.Rule.+expand.Goals as goal
 
 pub insert-requires : goal.insert-requires

@@ -4,7 +4,7 @@ use Rattle.std.specs.Int.Count.{ones}
 use Rattle.direct.specs.Inside.Expanding.{appended}
 use Rattle.design.specs.Inside.Inserting.{inserted_all}
 use Rattle.direct.specs.Inside.Placing.{place_by}
-use Rattle.direct.proofs.Emitting.{onward}
+use Rattle.direct.proofs.Emission.{onward}
 use Rattle.direct.proofs.Rule.+expand.Given as goal
 
 abbrev pub decreases-expand : goal.decreases-expand

@@ -1,4 +1,4 @@
-use Rattle.direct.proofs.Loading.{placed_constant, placed_past, placed_byte}
+use Rattle.direct.proofs.PlacementTables.{placed_constant, placed_past, placed_byte}
 use Rattle.direct.proofs.Rule.component.Goals as goal
 
 pub returns-then-chosen-eq0 : goal.returns-then-chosen-eq0

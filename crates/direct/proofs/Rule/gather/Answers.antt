@@ -1,4 +1,4 @@
-use Rattle.direct.proofs.Stepping.{gathered_none, width_shifts, bit_low, term_cast, room_term, gathers_more, gathers_none, all_gathered}
+use Rattle.direct.proofs.RuleLists.{gathered_none, width_shifts, bit_low, term_cast, room_term, gathers_more, gathers_none, all_gathered}
 use Rattle.direct.proofs.Rule.gather.Goals.{then-has, else-has}
 use Rattle.direct.proofs.Rule.gather.Goals as goal
 

@@ -3,7 +3,7 @@ use Rattle.std.proofs.Common.{◌≡◌, []}
 use Rattle.direct.specs.Inside.Expanding.{appended}
 use Rattle.design.specs.Inside.Inserting.{inserted_all}
 use Rattle.direct.specs.Inside.Placing.{place_by}
-use Rattle.direct.proofs.Gathering.{bringing}
+use Rattle.direct.proofs.DirectList.{bringing}
 use Rattle.direct.proofs.Rule.gather.Given as goal
 
 abbrev pub invariant-loop-u : goal.invariant-loop-u

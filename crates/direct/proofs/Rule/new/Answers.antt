@@ -1,9 +1,12 @@
 use Rattle.design.proofs.Limits.{one_stage}
-use Rattle.direct.proofs.Loading.{shares_within}
+use Rattle.direct.proofs.PlacementTables.{shares_some, shares_few}
 use Rattle.direct.proofs.Rule.new.Goals as goal
 
-pub loads-requires : goal.loads-requires
-loads-requires c = search shares_within
+pub loads-requires-clause-some : goal.loads-requires-clause-some
+loads-requires-clause-some c = search shares_some
+
+pub loads-requires-clause-few : goal.loads-requires-clause-few
+loads-requires-clause-few c = search shares_few
 
 pub invariant_of-result : goal.invariant_of-result
 invariant_of-result c = record { limits = search one_stage }

@@ -1,5 +1,5 @@
 -- `loads`: each byte, and its set as a number.
-use Rattle.direct.proofs.Loading.{index_fits, set_fits, shares_low}
+use Rattle.direct.proofs.PlacementTables.{index_fits, set_fits, shares_low}
 use Rattle.direct.proofs.fn.loads.all.Goals as goal
 
 pub overflow_cast-i : goal.overflow_cast-i

@@ -3,7 +3,7 @@
 use mathlib.Core.Path.{◌≡◌, refl, sym, ap, ap₂, ◌∙◌}
 use mathlib.Core.Logic.{◌≢◌}
 use mathlib.Core.Bool.{Bool, true, false, not, ◌&&◌}
-use mathlib.Core.List.{List, [], ◌∷◌}
+use mathlib.Core.List.{List, []}
 use Prim.Native.Nat.{ℕ, zero, suc, ◌+◌, ◌-◌, ◌^◌, ◌≤◌, ◌<◌}
 use native.Mathlib.Decide.{dec_lt, ℕ_discrete}
 use native.Mathlib.Omega.{arith}
@@ -22,7 +22,7 @@ use Rattle.std.proofs.lemmas.Bool.{and_from, and_parts, and_right}
 use Rattle.finite.proofs.Elements.{has_none, has_all}
 use Rattle.design.specs.Limits.{greatest_shares, broken}
 use Rattle.design.proofs.Limits.{bounds}
-use Rattle.direct.specs.Direct.{is_outside, loads, Loads, named_component, placed, component_for, published}
+use Rattle.direct.specs.Direct.{is_outside, loads, Loads, named_component, placed, component_for, published, placement_3, placement_4, placement_5}
 use Rattle.direct.proofs.Placement.{Outside}
 use Rattle.direct.proofs.Bench.{published_three, published_four, published_five}
 
@@ -150,14 +150,13 @@ module _ (s : ℕ) (low : 3 ≤ s) (high : s ≤ 5) where
 
 -- ---- the published tables in the code
 
-pub of_three : (s : ℕ) → s ≡ 3 → (3 ∷ 1 ∷ 3 ∷ 2 ∷ 2 ∷ 1 ∷ []) ≡ published s
+pub of_three : (s : ℕ) → s ≡ 3 → placement_3 ≡ published s
 of_three s e = sym (ap published e ∙ published_three)
 
-pub of_four : (s : ℕ) → s ≡ 4 → (4 ∷ 1 ∷ 4 ∷ 2 ∷ 2 ∷ 1 ∷ 4 ∷ 3 ∷ 3 ∷ 1 ∷ 3 ∷ 2 ∷ 2 ∷ 1 ∷ []) ≡ published s
+pub of_four : (s : ℕ) → s ≡ 4 → placement_4 ≡ published s
 of_four s e = sym (ap published e ∙ published_four)
 
-pub of_five : (s : ℕ) → s ≡ 5
-    → (5 ∷ 1 ∷ 5 ∷ 2 ∷ 2 ∷ 1 ∷ 5 ∷ 3 ∷ 3 ∷ 1 ∷ 3 ∷ 2 ∷ 2 ∷ 1 ∷ 5 ∷ 4 ∷ 4 ∷ 1 ∷ 4 ∷ 2 ∷ 2 ∷ 1 ∷ 4 ∷ 3 ∷ 3 ∷ 1 ∷ 3 ∷ 2 ∷ 2 ∷ 1 ∷ []) ≡ published s
+pub of_five : (s : ℕ) → s ≡ 5 → placement_5 ≡ published s
 of_five s e = sym (ap published e ∙ published_five)
 
 pub of_none : (s : ℕ) → s ≢ 3 → s ≢ 4 → s ≢ 5 → [] ≡ published s
@@ -172,5 +171,8 @@ of_none s a b c = at (dec_lt s 3) (dec_lt 5 s)
 -- ---- `Rule::new`: the head has k stages
 
 module _ (m s k : ℕ) (limits : broken m s k ≡ false) where
-  pub shares_within : (1 ≤ s) × (s ≤ greatest_shares)
-  shares_within = omega (arith, (bounds m s k limits).s_low, (bounds m s k limits).s_high)
+  pub shares_some : 1 ≤ s
+  shares_some = omega (arith, (bounds m s k limits).s_low)
+
+  pub shares_few : s ≤ greatest_shares
+  shares_few = (bounds m s k limits).s_high

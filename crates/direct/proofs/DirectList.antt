@@ -24,10 +24,10 @@ use Rattle.direct.specs.Direct.{is_product, chosen, stands, direct_list}
 use Rattle.direct.specs.Inside.Expanding.{appended, ending, emitted, brought}
 use Rattle.design.specs.Inside.Inserting.{inserted_all}
 use Rattle.direct.proofs.Products.{product_term}
-use Rattle.direct.proofs.Formed.{list_size}
-use Rattle.direct.proofs.Emitting.{appended_within, ending_here, ending_other, through}
+use Rattle.direct.proofs.WellFormed.{list_size}
+use Rattle.direct.proofs.Emission.{appended_within, ending_here, ending_other, through}
 use Rattle.design.proofs.Inserting.{inserted_all_append, inserted_one, inserted_none, inserted_passing, inserted_all_length}
-use Rattle.direct.proofs.Choosing.{chosen_none, chosen_with, extends, extends_none, extends_all, extends_skip, extends_each, extends_apart, Clean, clean_with, with_lt}
+use Rattle.direct.proofs.Extensions.{chosen_none, chosen_with, extends, extends_none, extends_all, extends_skip, extends_each, extends_apart, Clean, clean_with, with_lt}
 
 -- ---- the products of a term
 

@@ -1,4 +1,5 @@
--- The steps of the expansion over plain values, each premise as the code has it: l₀ is a list at first, l before a step and l' after it.
+-- The lists that `expand` and `gather` of Rule make, over plain values, each premise as the code has it: l₀ is a list at first, l before a step and l' after
+-- it.
 use mathlib.Core.Path.{◌≡◌, sym, ap, ap₂, ◌∙◌}
 use mathlib.Core.Bool.{Bool, true, false}
 use mathlib.Core.List.{List, [], ◌∷◌}
@@ -20,9 +21,9 @@ use Rattle.direct.specs.Direct.{direct_list}
 use Rattle.direct.specs.Inside.Expanding.{appended, emitted}
 use Rattle.design.specs.Inside.Inserting.{inserted, inserted_all}
 use Rattle.design.proofs.Inserting.{inserted_one, inserted_none}
-use Rattle.direct.proofs.Emitting.{ending_here, ending_other, emitted_end, onward, variable_lt, fewer, emitted_each, appended_within, appended_turn, appended_zero}
+use Rattle.direct.proofs.Emission.{ending_here, ending_other, emitted_end, onward, variable_lt, fewer, emitted_each, appended_within, appended_turn, appended_zero}
 use Rattle.design.proofs.Inserting.{inserted_all_length}
-use Rattle.direct.proofs.Gathering.{bringing, bringing_fits, gathered_all}
+use Rattle.direct.proofs.DirectList.{bringing, bringing_fits, gathered_all}
 
 -- ---- `expand`: the products of the variables of u, on top of p, for which the shares J are chosen
 
