@@ -39,7 +39,6 @@ refusal_some (NotCorrect stage) = λ z. omega arith
 refusal_some (NotNonComplete stage component) = λ z. omega arith
 refusal_some (NotUniform stage) = λ z. omega arith
 
-
 -- what stage t answers, with its trials
 told : (d : Design) (t : ℕ) (v : Verdict) (n : ℕ) → v ≡ stage_judged d t → n ≡ stage_tries d t v.reason → counted v n ≡ stage_judging d t
 told d t v n e q = ap₂ counted e (q ∙ ap (λ (w : Verdict). stage_tries d t w.reason) e)
