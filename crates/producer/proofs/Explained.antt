@@ -19,7 +19,7 @@ use Rattle.anf.proofs.Explained.{table_passes, table_passed, word_found, word_fa
 use Rattle.design.specs.Limits.{broken, checked, head_answer, WithinLimits}
 use Rattle.design.proofs.Limits.{head_number}
 use Rattle.direct.specs.Direct.{loads, Box}
-use Rattle.direct.proofs.Loading.{loaded, loading}
+use Rattle.direct.proofs.PlacementTables.{loaded, loading}
 use Rattle.producer.specs.Producing.{produced, produced_reason}
 use Rattle.producer.specs.Explained.{ProducingExplained, limit_broken, size_wrong, entry_high, box_repeats, placement_wrong, degree_high, output_short, succeeds}
 use Rattle.producer.proofs.Tests.{reason_head, reason_placement, reason_degree, reason_last, TableTested, table_tested}
