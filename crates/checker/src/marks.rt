@@ -14,7 +14,8 @@ pub fn clear(marks: &mut [u8], n: usize)
 // Marks `y` in the lent bytes, which a struct round them would not make plainer, since it would hold nothing else, and answers whether it was marked before.
 pub fn mark_one(marks: &mut [u8], y: usize) -> bool
     requires { y / 8 < length marks.old }
-    ensures { (result ≡ marked marks.old y) × (marks.new ≡ mark marks.old y) }
+    ensures value { result ≡ marked marks.old y }
+    ensures marks_after { marks.new ≡ mark marks.old y }
 {
     let q = y / 8;
     let k = y % 8;

@@ -68,11 +68,11 @@ starts_more f i at l p = rw p (tabulate_more i (start_of f) no_starts l)
 
 -- after the head; e is the number of the last record
 pub walked_first : (f : List ℕ) (h : Head) (starts : List ℕ) (e : ℕ) → h ≡ head_of f → e ≡ last_of h → e < greatest_records → fault_at f h 0 0 ≡ 0 → length starts ≡ greatest_records
-    → starts ≡ set no_starts 0 4 → Walked f h (e + 1) starts 1 7
+    → starts ≡ set no_starts 0 4 → (at : ℕ) → at ≡ 4 + 3 → Walked f h (e + 1) starts 1 at
 unfolding place
-walked_first f h starts e q m k z l s =
+walked_first f h starts e q m k z l s at p =
     let w = head_next f (rw q at z) in
-    record {
+    rw p (record {
       head = q;
       count = ap (λ (x : ℕ). x + 1) m;
       few = omega arith;
@@ -83,7 +83,7 @@ walked_first f h starts e q m k z l s =
       room = l;
       passed = s ∙ starts_first f;
       rest = rw (m, q) w.2;
-    }
+    })
 
 module _ (f : List ℕ) (h : Head) (n : ℕ) (starts : List ℕ) (i at : ℕ) (w : Walked f h n starts i at) where
   -- a record is tested: r is its fault, b the length of its body

@@ -11,14 +11,17 @@ ghost use Rattle.design.specs.Heads.{numbers, laid, design_by};
 
 use super::reader::body_size;
 use super::{GREATEST_RECORDS, Head, Lists};
-use records::{Terms, record_size};
+use records::{RECORD_HEAD_SIZE, Terms, record_size};
 
 /// A file that reads as a design: its head, and where the body of each record starts, in fixed memory. A stage is named by its number, below k: a struct of
 /// the file and that number would be no plainer, as each loop over stages would have to make one.
-#[derive(Clone, Copy)]
+#[derive(Clone, Copy, Debug, PartialEq, Eq)]
 pub struct DesignFile<'a> {
+    /// The bytes of the file.
     pub file: &'a [u8],
+    /// Its numbers m, s and k.
     pub head: Head,
+    /// Where the body of each record starts, by its number; 0 for numbers behind that of the end.
     pub starts: [usize; GREATEST_RECORDS],
     pub ghost bytes: { Bytes file.now },
     pub ghost described: { Describes file.now (laid head starts) },
@@ -57,7 +60,7 @@ impl<'a> DesignFile<'a> {
         ensures { terms_of result ≡ list_of (design_of self.now) t l }
     {
         let from = self.starts[self.head.number(t, l + 1)];
-        let n = body_size(self.file, from - 4);
+        let n = body_size(self.file, from - RECORD_HEAD_SIZE);
         Terms::new(&self.file[from..from + n])
     }
 
@@ -78,7 +81,7 @@ impl<'a> DesignFile<'a> {
     pub fn stages(&self) -> &'a [u8]
         ensures { result.now ≡ concat (map stage_bytes (design_of self.now).stages) }
     {
-        let from = record_size(3) + record_size(self.head.points());
+        let from = record_size(Head::SIZE) + record_size(self.head.points());
         let end = self.file.len() - record_size(0);
         &self.file[from..end]
     }

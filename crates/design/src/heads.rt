@@ -7,13 +7,16 @@ ghost use Rattle.records.specs.Kinds.{code};
 use super::GREATEST_TERMS;
 use finite::power;
 use reasons::Reason;
-use records::Kind;
+use records::{Kind, TERM_SIZE};
 
 /// Bits, shares and stages of a design, none beyond the limits.
 #[derive(Clone, Copy, Debug, PartialEq, Eq)]
 pub struct Head {
+    /// Bits of a share, 1 to 6; m × s is at most 20.
     pub m: usize,
+    /// Shares, 3 to 5.
     pub s: usize,
+    /// Stages, 1 to 4.
     pub k: usize,
     pub ghost limits: { broken m s k ≡ false },
 }
@@ -21,15 +24,23 @@ pub struct Head {
 impl Head {
     ghost use Rattle.design.specs.Heads.{numbers, head_outcome};
 
+    /// The greatest m.
     pub const GREATEST_WIDTH: usize = anf::GREATEST_WIDTH;
 
+    /// The least s.
     pub const LEAST_SHARES: usize = 3;
 
+    /// The greatest s.
     pub const GREATEST_SHARES: usize = 5;
 
+    /// The greatest m × s.
     pub const GREATEST_SHARE_BITS: usize = 20;
 
+    /// The greatest k.
     pub const GREATEST_STAGES: usize = 4;
+
+    /// How many bytes the body of its record has: m, s and k.
+    pub const SIZE: usize = 3;
 
     /// The head of these numbers, if none breaks a limit.
     pub fn new(m: usize, s: usize, k: usize) -> Result<Self, Reason>
@@ -109,9 +120,9 @@ impl Head {
         ensures { result ≡ size_due (numbers self) (code kind) }
     {
         match kind {
-            Kind::Head => 3,
+            Kind::Head => Self::SIZE,
             Kind::Table => self.points(),
-            Kind::List => 4 * GREATEST_TERMS,
+            Kind::List => TERM_SIZE * GREATEST_TERMS,
             Kind::End => 0,
         }
     }

@@ -19,13 +19,13 @@ pub use lists::Lists;
 pub use reader::{read, read_head};
 pub use term_list::TermList;
 
-// The greatest number of entries of a table.
+/// The greatest number of entries of a table.
 pub const GREATEST_POINTS: usize = 1 << Head::GREATEST_WIDTH;
 
-// The greatest number of terms of a list.
+/// The greatest number of terms of a list.
 pub const GREATEST_TERMS: usize = 4096;
 
-// The greatest number of records of a file: the head, the box, a table and a list for each share bit in each stage, the end.
+/// The greatest number of records of a file: the head, the box, a table and a list for each share bit in each stage, the end.
 pub const GREATEST_RECORDS: usize = 3 + Head::GREATEST_STAGES * (1 + Head::GREATEST_SHARE_BITS);
 
 /// 2 to the power of a number of share bits, in 32 bits: so many sharings there are, and so many terms of them.

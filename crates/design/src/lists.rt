@@ -3,12 +3,14 @@ ghost use Rattle.std.specs.Prelude.{◌≡◌, ◌+◌, ◌≤◌, ◌<◌, [], 
 ghost use Rattle.design.specs.Limits.{greatest_share_bits};
 ghost use Rattle.design.specs.Inside.StageLists.{Stands};
 
-use records::Terms;
+use records::{RECORD_HEAD_SIZE, Terms};
 
 /// Lists of a stage: where the body of each starts in the file, and where that of the record behind them does.
-#[derive(Clone, Copy)]
+#[derive(Clone, Copy, Debug)]
 pub struct Lists<'a> {
+    /// The bytes of the file.
     pub file: &'a [u8],
+    /// One more than there are lists: 2 to 21.
     pub starts: &'a [usize],
     pub ghost stands: { Stands file.now starts.now },
 }
@@ -30,7 +32,7 @@ impl<'a> Lists<'a> {
         requires { i < length (lists_held self.now) }
         ensures { terms_of result ≡ get_or (lists_held self.now) i [] }
     {
-        Terms::new(&self.file[self.starts[i]..self.starts[i + 1] - 4])
+        Terms::new(&self.file[self.starts[i]..self.starts[i + 1] - RECORD_HEAD_SIZE])
     }
 
     /// The `n` lists from `from` on.

@@ -15,14 +15,14 @@ ghost use Rattle.design.specs.Answers.{reading_of, layout_read};
 
 use super::{DesignFile, Fault, GREATEST_RECORDS, Head, ReadError};
 use anf::{entries_below, stands_before};
-use records::{Kind, Terms, u16_at};
+use records::{Kind, RECORD_HEAD_SIZE, TERM_SIZE, Terms, record_size, u16_at};
 
 // Whether a record of this kind may have the length `n`.
 fn length_fits(kind: Kind, size: usize, n: usize) -> bool
     ensures { result ≡ length_due (code kind) size n }
 {
     match kind {
-        Kind::List => n % 4 == 0 && n <= size,
+        Kind::List => n % TERM_SIZE == 0 && n <= size,
         _ => n == size,
     }
 }
@@ -43,7 +43,7 @@ fn framed(file: &[u8], at: usize, kind: Kind, size: usize) -> Result<&[u8], Faul
     ensures body { let n = u16_at file.now at in
         IfOk result (λ body. body.now ≡ take n (drop (at + 4) file.now)) }
 {
-    if file.len() - at < 4 {
+    if file.len() - at < RECORD_HEAD_SIZE {
         return Err(Fault::CutShort);
     }
     if u16_at(file, at + 2) != kind.code() {
@@ -53,10 +53,11 @@ fn framed(file: &[u8], at: usize, kind: Kind, size: usize) -> Result<&[u8], Faul
     if !length_fits(kind, size, n) {
         return Err(Fault::WrongLength);
     }
-    if file.len() - at - 4 < n {
+    if file.len() - at - RECORD_HEAD_SIZE < n {
         return Err(Fault::CutShort);
     }
-    Ok(&file[at + 4..at + 4 + n])
+    let from = at + RECORD_HEAD_SIZE;
+    Ok(&file[from..from + n])
 }
 
 // Whether the term `t` rises: it is the first, or the one before it stands before it.
@@ -120,14 +121,14 @@ fn walk(file: &[u8], head: Head) -> Result<DesignFile<'_>, ReadError>
     ensures layout { layout_read result ≡ layout_of file.now }
 {
     let mut starts = [0usize; GREATEST_RECORDS];
-    starts[0] = 4;
-    let mut at = 7;
+    starts[0] = RECORD_HEAD_SIZE;
+    let mut at = record_size(Head::SIZE);
     for i in 1..head.last() + 1 {
         // A match, as `map_err` would need a contract at its closure, which is no plainer.
         match faultless(file, head, i, at) {
             Ok(n) => {
-                starts[i] = at + 4;
-                at = at + 4 + n;
+                starts[i] = at + RECORD_HEAD_SIZE;
+                at = at + RECORD_HEAD_SIZE + n;
             }
             Err(fault) => return Err(ReadError { fault, place: at }),
         }
@@ -145,7 +146,7 @@ fn walk(file: &[u8], head: Head) -> Result<DesignFile<'_>, ReadError>
 pub fn read_head(file: &[u8]) -> Result<Head, Fault>
     ensures { head_reading result ≡ head_read file.now }
 {
-    let body = framed(file, 0, Kind::Head, 3)?;
+    let body = framed(file, 0, Kind::Head, Head::SIZE)?;
     let m = usize::from(body[0]);
     let s = usize::from(body[1]);
     let k = usize::from(body[2]);

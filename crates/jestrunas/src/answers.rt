@@ -10,8 +10,11 @@ use threshold::FiveShares;
 #[repr(C)]
 #[derive(Clone, Copy, Debug, PartialEq, Eq)]
 pub struct Verdict {
+    /// 0, or 1 to 10 or 12 to 14.
     pub reason: usize,
+    /// With 1 to 7 in bytes from the start of the file; with 12 to 14 the stage, 1 to 4.
     pub place: usize,
+    /// With 13, 1 to 5.
     pub component: usize,
 }
 
@@ -19,7 +22,9 @@ pub struct Verdict {
 #[repr(C)]
 #[derive(Clone, Copy, Debug, PartialEq, Eq)]
 pub struct Judged {
+    /// The first fault, or none.
     pub verdict: Verdict,
+    /// One for each sharing put through a stage, 0 to 8 × 2^(m × s) (RULES 7).
     pub trials: usize,
 }
 
@@ -27,8 +32,11 @@ pub struct Judged {
 #[repr(C)]
 #[derive(Clone, Copy, Debug, PartialEq, Eq)]
 pub struct Forecast {
+    /// 0, or 1 to 4.
     pub reason: usize,
+    /// 2^(m × s) / 8 bytes, 1 to 131,072.
     pub workspace: usize,
+    /// 2 × k × 2^(m × s), at most 8,388,608.
     pub trials: usize,
 }
 
@@ -36,7 +44,9 @@ pub struct Forecast {
 #[repr(C)]
 #[derive(Clone, Copy, Debug, PartialEq, Eq)]
 pub struct Ran {
+    /// 0, or 1 to 7 or 15.
     pub reason: usize,
+    /// Share j is below 2^m, and those after the s-th are 0.
     pub shares: FiveShares,
 }
 
@@ -44,7 +54,9 @@ pub struct Ran {
 #[repr(C)]
 #[derive(Clone, Copy, Debug, PartialEq, Eq)]
 pub struct Produced {
+    /// 0, or the number of a refusal.
     pub reason: usize,
+    /// In bytes.
     pub length: usize,
 }
 

@@ -10,3 +10,9 @@ pub use bytes::u16_at;
 pub use kind::Kind;
 pub use terms::{Terms, TermsIter};
 pub use writer::{Writer, record_size};
+
+/// How many bytes stand before the body of a record: the length of the body, and the kind.
+pub const RECORD_HEAD_SIZE: usize = 4;
+
+/// How many bytes a term has.
+pub const TERM_SIZE: usize = 4;

@@ -2,8 +2,10 @@
 ghost use Rattle.std.specs.Prelude.{◌≡◌};
 ghost use Rattle.records.specs.Inside.Terms.{terms, terms_of, left};
 
+use super::TERM_SIZE;
+
 /// A list of terms as it stands in a file.
-#[derive(Clone, Copy, Debug)]
+#[derive(Clone, Copy, Debug, PartialEq, Eq)]
 pub struct Terms<'a> {
     bytes: &'a [u8],
 }
@@ -41,7 +43,7 @@ impl<'a> Iterator for TermsIter<'a> {
     ghost remaining = { item_count left };
 
     fn next(&mut self) -> Option<u32> {
-        let (term, rest) = self.rest.split_first_chunk::<4>()?;
+        let (term, rest) = self.rest.split_first_chunk::<TERM_SIZE>()?;
         self.rest = rest;
         Some(u32::from_le_bytes(*term))
     }

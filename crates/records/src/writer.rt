@@ -3,7 +3,7 @@ ghost use Rattle.std.specs.Prelude.{◌≡◌, ◌+◌, ◌*◌, ◌<◌, length
 ghost use Rattle.records.specs.Records.{record_head, a_record, list_record, end_record};
 ghost use Rattle.records.specs.Encode.{front_bytes};
 
-use super::Kind;
+use super::{Kind, RECORD_HEAD_SIZE, TERM_SIZE};
 
 /// An output that is written from its front on: the next byte goes to the place `at`. Each method asks for room for the bytes that it writes, and that a body's
 /// length and a head's number fit their bytes.
@@ -57,7 +57,9 @@ impl<'a> Writer<'a> {
     /// Writes the front of a file: the record of the head's three numbers, and that of the box.
     pub fn front(&mut self, m: usize, s: usize, k: usize, table: &[u8])
         requires room { Room self.old (front_bytes m s k table.now) }
-        requires bytes { (m < 256) × (s < 256) × (k < 256) }
+        requires m_byte { m < 256 }
+        requires s_byte { s < 256 }
+        requires k_byte { k < 256 }
         requires short { length table.now < 65536 }
         ensures { Writes self.old self.new (front_bytes m s k table.now) }
     {
@@ -80,7 +82,7 @@ impl<'a> Writer<'a> {
         requires short { 4 * length terms.now < 65536 }
         ensures { Writes self.old self.new (list_record terms.now) }
     {
-        self.head(4 * terms.len(), Kind::List);
+        self.head(TERM_SIZE * terms.len(), Kind::List);
         for term in terms {
             self.bytes(&term.to_le_bytes());
         }
@@ -100,5 +102,5 @@ pub fn record_size(body: usize) -> usize
     requires { body < 65536 }
     ensures { result ≡ 4 + body }
 {
-    4 + body
+    RECORD_HEAD_SIZE + body
 }

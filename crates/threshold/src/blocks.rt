@@ -10,18 +10,27 @@ use anf::words::sum_subsets;
 use design::{Lists, two_to};
 use records::Terms;
 
+// How many lower variables there are: the sharings of a block differ in them alone.
+const LOWER_VARIABLES: usize = 6;
+
+// How many sharings a block has.
+const SHARINGS: u32 = 1 << LOWER_VARIABLES;
+
+// A word for each sharing of a block.
+type Block = [u32; SHARINGS as usize];
+
 // Adds `p` to the word of the term's lower variables, where `high` has its upper ones.
-fn add_term(t: u32, high: u32, p: u32, words: &mut [u32; 64])
+fn add_term(t: u32, high: u32, p: u32, words: &mut Block)
     ensures { words.new ≡ term_added high p t words.old }
 {
-    let upper = t / 64;
+    let upper = t / SHARINGS;
     if upper | high == high {
-        words[(t % 64) as usize] ^= p;
+        words[(t % SHARINGS) as usize] ^= p;
     }
 }
 
 // The same for each term of a list. These functions take the words and not `Outputs`, so that each is an equation on the words alone.
-fn add_terms(list: &Terms<'_>, high: u32, p: u32, words: &mut [u32; 64])
+fn add_terms(list: &Terms<'_>, high: u32, p: u32, words: &mut Block)
     ensures { words.new ≡ terms_added high p (terms_of list.now) words.old }
 {
     for term in list.iter() {
@@ -30,7 +39,7 @@ fn add_terms(list: &Terms<'_>, high: u32, p: u32, words: &mut [u32; 64])
 }
 
 // The coefficients of the lists, in the place of zeros; from the last list down by its number, as in `output_of`.
-fn add_lists(lists: &Lists<'_>, high: u32, words: &mut [u32; 64])
+fn add_lists(lists: &Lists<'_>, high: u32, words: &mut Block)
     requires { words.old ≡ replicate 64 0 }
     ensures { words.new ≡ tabulate 64 (coefficients high 0 (lists_held lists.now)) }
 {
@@ -40,21 +49,21 @@ fn add_lists(lists: &Lists<'_>, high: u32, words: &mut [u32; 64])
 }
 
 // The outputs at the 64 sharings from `x` on.
-fn fill(lists: &Lists<'_>, x: u32, words: &mut [u32; 64])
+fn fill(lists: &Lists<'_>, x: u32, words: &mut Block)
     requires { x % 64 ≡ 0 }
     ensures { words.new ≡ outputs_from (lists_held lists.now) x }
 {
     words.fill(0);
-    add_lists(lists, x / 64, words);
-    sum_subsets(6, words);
+    add_lists(lists, x / SHARINGS, words);
+    sum_subsets(LOWER_VARIABLES, words);
 }
 
 // The outputs of the block that `x` stands in, which are there but where it begins one.
-fn renew(lists: &Lists<'_>, x: u32, words: &mut [u32; 64])
+fn renew(lists: &Lists<'_>, x: u32, words: &mut Block)
     requires { Ahead (lists_held lists.now) x words.old }
     ensures { words.new ≡ outputs_from (lists_held lists.now) (x / 64 * 64) }
 {
-    if x % 64 == 0 {
+    if x % SHARINGS == 0 {
         fill(lists, x, words);
     }
 }
@@ -64,7 +73,7 @@ fn renew(lists: &Lists<'_>, x: u32, words: &mut [u32; 64])
 pub struct Outputs<'a> {
     lists: Lists<'a>,
     next: u32,
-    words: [u32; 64],
+    words: Block,
     ghost ahead: { Ahead (lists_held lists) next words },
 }
 
@@ -81,7 +90,7 @@ impl<'a> Outputs<'a> {
         Outputs {
             lists,
             next: 0,
-            words: [0; 64],
+            words: [0; SHARINGS as usize],
         }
     }
 }
@@ -103,6 +112,6 @@ impl<'a> Iterator for Outputs<'a> {
         }
         renew(&self.lists, x, &mut self.words);
         self.next = x + 1;
-        Some(self.words[(x % 64) as usize])
+        Some(self.words[(x % SHARINGS) as usize])
     }
 }

@@ -7,4 +7,4 @@ use Rattle.checker.proofs.marks.mark_one.Goals as goal
 
 pub returns : goal.returns
 unfolding marked has
-returns c = (refl, mark_stored _ _)
+returns c = record { value = refl; marks_after = mark_stored _ _ }

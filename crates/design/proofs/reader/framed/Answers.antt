@@ -2,8 +2,8 @@
 use Rattle.design.proofs.Faults.{head_short, other_kind, body_short, frame_good, wrong_length}
 use Rattle.design.proofs.reader.framed.Goals as goal
 
-pub returns-then-file-at-lt4-clause-fault : goal.returns-then-file-at-lt4-clause-fault
-returns-then-file-at-lt4-clause-fault c = search head_short
+pub returns-then-file-at-lt-RECORD_HEAD_SIZE-clause-fault : goal.returns-then-file-at-lt-RECORD_HEAD_SIZE-clause-fault
+returns-then-file-at-lt-RECORD_HEAD_SIZE-clause-fault c = search head_short
 
 pub returns-then-u16_at-code-clause-fault : goal.returns-then-u16_at-code-clause-fault
 returns-then-u16_at-code-clause-fault c = search other_kind

@@ -9,8 +9,14 @@ sent_through-table-requires c = search (box_through (design_of c.args.a.now) (de
 pub front-requires-clause-room : goal.front-requires-clause-room
 front-requires-clause-room c = search (front_room (design_of c.args.a.now) (design_of c.args.b.now))
 
-pub front-requires-clause-bytes : goal.front-requires-clause-bytes
-front-requires-clause-bytes c = (search width_byte, search shares_byte, search stages_byte)
+pub front-requires-clause-m_byte : goal.front-requires-clause-m_byte
+front-requires-clause-m_byte c = search width_byte
+
+pub front-requires-clause-s_byte : goal.front-requires-clause-s_byte
+front-requires-clause-s_byte c = search shares_byte
+
+pub front-requires-clause-k_byte : goal.front-requires-clause-k_byte
+front-requires-clause-k_byte c = search stages_byte
 
 pub bytes-requires : goal.bytes-requires
 bytes-requires c = search (first_room (design_of c.args.a.now) (design_of c.args.b.now))

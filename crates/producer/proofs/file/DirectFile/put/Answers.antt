@@ -6,8 +6,11 @@ use Rattle.producer.proofs.file.DirectFile.put.Goals as goal
 pub front-requires-clause-room : goal.front-requires-clause-room
 front-requires-clause-room c = search front_room
 
-pub front-requires-clause-bytes : goal.front-requires-clause-bytes
-front-requires-clause-bytes c = (search (rules, width_byte), search (rules, shares_byte), search rules)
+pub front-requires-clause-m_byte : goal.front-requires-clause-m_byte
+front-requires-clause-m_byte c = search (rules, width_byte)
+
+pub front-requires-clause-s_byte : goal.front-requires-clause-s_byte
+front-requires-clause-s_byte c = search (rules, shares_byte)
 
 pub front-requires-clause-short : goal.front-requires-clause-short
 front-requires-clause-short c = search table_short
