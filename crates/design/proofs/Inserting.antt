@@ -26,7 +26,6 @@ use Rattle.anf.specs.Terms.{before, passing}
 use Rattle.anf.proofs.Order.{before_total, First, Rising, first_trans, member}
 use Rattle.anf.proofs.Terms.{unique_members}
 use Rattle.anf.proofs.PassingLists.{passing_rising, passing_member}
-use Rattle.design.specs.Limits.{greatest_terms}
 use Rattle.design.specs.Inside.Inserting.{inserted, inserted_all}
 
 -- the place of a term
@@ -46,11 +45,11 @@ last_first l = drop (length l - 1) l ++ take (length l - 1) l
 rotated : (l : List ℕ) (t : ℕ) → last_first (l ++ t ∷ []) ≡ t ∷ l
 rotated l t = grind (arith, common_steps)
 
-pub term_inserted : (t n k : ℕ) (xs ys l : List ℕ) (o : Option ℕ) → length xs ≡ greatest_terms → n ≤ greatest_terms → take n xs ≡ l → length l < greatest_terms
+pub term_inserted : (t n k N : ℕ) (xs ys l : List ℕ) (o : Option ℕ) → length xs ≡ N → n ≤ N → take n xs ≡ l → length l < N
     → o ≡ position (before t) (take n xs) → k ≡ unwrap_or o n
     → ys ≡ last_first (mid_of k (n + 1 - k) (set xs n t))
     → take (n + 1) (put_mid k (n + 1 - k) (set xs n t) ys) ≡ inserted t l
-term_inserted t n k xs ys l o room most e few q w r =
+term_inserted t n k N xs ys l o room most e few q w r =
     let size : length (take n xs) ≡ n = length-take-le n xs (omega arith) in
     let h : n < length xs = omega (arith, ap length e) in
     let ke : k ≡ position_or_len (before t) (take n xs) = w ∙ ap (λ (x : Option ℕ). unwrap_or x n) q ∙ place_is (before t) (take n xs) n size in

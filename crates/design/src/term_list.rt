@@ -1,10 +1,8 @@
 // A list of terms that grows, in fixed memory.
 ghost use Rattle.std.specs.Prelude.{ℕ, ◌≡◌, ◌<◌, ◌≤◌, List, [], length, take, position};
 ghost use Rattle.anf.specs.Terms.{before};
-ghost use Rattle.design.specs.Limits.{greatest_terms};
 ghost use Rattle.design.specs.Inside.Inserting.{inserted};
 
-use crate::GREATEST_TERMS;
 use anf::stands_before;
 use std::marker::Model;
 
@@ -15,29 +13,29 @@ fn first_behind(terms: &[u32], t: u32) -> Option<usize>
     terms.iter().position(|x| stands_before(t, *x))
 }
 
-/// A list of terms, no longer than the longest list of a design.
+/// A list of at most `N` terms.
 #[derive(Drop)]
-pub struct TermList {
-    terms: [u32; GREATEST_TERMS],
+pub struct TermList<const N: usize> {
+    terms: [u32; N],
     len: usize,
 }
 
 // Clauses see the terms.
-impl Model for TermList {
+impl<const N: usize> Model for TermList<N> {
     ghost Value = { List ℕ };
 
     ghost view = { λ l. take l.len l.terms };
 
-    ghost invariant = { λ l. l.len ≤ greatest_terms };
+    ghost invariant = { λ l. l.len ≤ N };
 }
 
-impl TermList {
+impl<const N: usize> TermList<N> {
     /// The list of no term.
-    pub fn new() -> TermList
+    pub fn new() -> Self
         ensures { result ≡ [] }
     {
         TermList {
-            terms: [0; GREATEST_TERMS],
+            terms: [0; N],
             len: 0,
         }
     }
@@ -45,7 +43,7 @@ impl TermList {
     /// How many terms there are.
     pub fn len(&self) -> usize
         ensures value { result ≡ length self.now }
-        ensures most { result ≤ greatest_terms }
+        ensures most { result ≤ N }
     {
         self.as_slice().len()
     }
@@ -53,7 +51,7 @@ impl TermList {
     /// The terms in their order.
     pub fn as_slice(&self) -> &[u32]
         ensures value { result.now ≡ self.now }
-        ensures most { length self.now ≤ greatest_terms }
+        ensures most { length self.now ≤ N }
     {
         &self.terms[..self.len]
     }
@@ -67,12 +65,13 @@ impl TermList {
 
     /// Puts the term t into its place.
     pub fn insert(&mut self, t: u32)
-        requires { length self.old < greatest_terms }
+        requires { length self.old < N }
         ensures { self.new ≡ inserted t self.old }
     {
-        let at = first_behind(&self.terms[..self.len], t).unwrap_or(self.len);
-        self.terms[self.len] = t;
+        let terms = &mut self.terms[..];
+        let at = first_behind(&terms[..self.len], t).unwrap_or(self.len);
+        terms[self.len] = t;
         self.len += 1;
-        self.terms[at..self.len].rotate_right(1);
+        terms[at..self.len].rotate_right(1);
     }
 }

@@ -14,13 +14,18 @@ use Rattle.finite.specs.Tests.{pick, bit, any, count, total}
 use Rattle.finite.specs.Sets.{subset, has}
 use Rattle.std.proofs.lemmas.Bool.{cases_Bool}
 use Rattle.finite.proofs.Testing.{any_some}
-use Rattle.finite.proofs.Counting.{total_congr, total_zero, count_has, total_double, total_times, total_blocks, count_any}
-use Rattle.finite.proofs.Subsets.{Top, low, top, top_cases, xor_top_low, subset_low_top, subset_top_top, subset_top_low, subset_self, xor_top_top}
+use Rattle.finite.proofs.Counting.{total_congr, total_zero, total_one, count_has, total_double, total_times, total_blocks, count_any}
+use Rattle.finite.proofs.Subsets.{Top, low, top, top_cases, xor_top_low, subset_low_top, subset_top_top, subset_top_low, subset_self, subset_empty, xor_top_top}
 use Rattle.finite.proofs.Elements.{ones_count, some_element, ones_top}
 use Rattle.direct.specs.Direct.{is_product}
+use Rattle.sharing.specs.Sharing.{share}
+use native.Mathlib.Decide.{ℕ_discrete}
+use lib.Pow.{pow_pos}
+use borrow.Author.Tests.{eq-eqb, ne_eqb}
+use Rattle.std.specs.Int.Bits.{xor_zero_r}
 use Rattle.direct.proofs.Products.{product_none}
 use Rattle.direct.proofs.Expansion.{product_blocks}
-use Rattle.sharing.proofs.Sharing.{pow_step}
+use Rattle.sharing.proofs.Sharing.{pow_step, share_low, share_top}
 
 -- ---- the subsets of u
 
@@ -120,3 +125,77 @@ products_most m s =
       total_congr (2 ^ m) (λ u. count (2 ^ (m * s)) (is_product m s u)) (λ u. s ^ ones u) (λ u l. products_count m s u l),
       all_products m s,
     )
+
+-- ---- the products that take nothing of a share c: as many as with a share less
+
+one_less : (b : Bool) (n : ℕ) (p q : ℕ → Bool) (k : ℕ) → count n (λ r. p r && q r) ≡ k → count n (λ r. (b && p r) && q r) ≡ pick b k 0
+one_less true n p q k h = h
+one_less false n p q k h = total_zero n (λ r. 0) (λ r i. refl)
+
+-- the last share
+left_last : (m s u : ℕ) → u < 2 ^ m
+    → total (2 ^ m) (λ t. count (2 ^ (m * s)) (λ r. is_product m (suc s) u (t * 2 ^ (m * s) + r) && eqb (share m s (t * 2 ^ (m * s) + r)) 0)) ≡ s ^ ones u
+left_last m s u l =
+    total_one (2 ^ m) (λ t. count (2 ^ (m * s)) (λ r. is_product m (suc s) u (t * 2 ^ (m * s) + r) && eqb (share m s (t * 2 ^ (m * s) + r)) 0)) 0 (pow_pos m)
+    (λ t lt ne. total_zero (2 ^ (m * s)) _ (λ r lr.
+    ap (λ (b : Bool). bit (is_product m (suc s) u (t * 2 ^ (m * s) + r) && b)) (ne_eqb (share m s (t * 2 ^ (m * s) + r)) 0 (λ z. ne (sym (share_top m s t r lt lr) ∙ z)))
+    ∙ none (is_product m (suc s) u (t * 2 ^ (m * s) + r))))
+    ∙ total_congr (2 ^ (m * s)) _ (λ r. bit (is_product m s u r))
+    (λ r lr. ap₂ (λ (a b : Bool). bit (a && b))
+    (product_blocks m s u 0 r (pow_pos m) lr ∙ ap₂ (λ (a : Bool) (x : ℕ). a && is_product m s x r) (subset_empty u) (xor_zero_r u))
+    (eq-eqb _ 0 (share_top m s 0 r (pow_pos m) lr))
+    ∙ ap bit (and_true (is_product m s u r)))
+    ∙ products_count m s u l
+  where
+    none : (b : Bool) → bit (b && false) ≡ 0
+    none true = refl
+    none false = refl
+
+    and_true : (b : Bool) → (b && true) ≡ b
+    and_true true = refl
+    and_true false = refl
+
+-- a lower share
+pub left_lower : (m s c u : ℕ) → c < s → u < 2 ^ m
+    → total (2 ^ m) (λ t. count (2 ^ (m * s)) (λ r. is_product m (suc s) u (t * 2 ^ (m * s) + r) && eqb (share m c (t * 2 ^ (m * s) + r)) 0)) ≡ s ^ ones u
+left_lower m zero c u lc l = absurd (omega arith)
+left_lower m (suc s) c u lc l =
+    total_congr (2 ^ m) _ (λ t. pick (subset t u) (s ^ ones (bit_xor u t)) 0)
+    (λ t lt. total_congr (2 ^ (m * suc s)) _ (λ r. bit ((subset t u && is_product m (suc s) (bit_xor u t) r) && eqb (share m c r) 0))
+    (λ r lr. ap₂ (λ (a b : Bool). bit (a && b)) (product_blocks m (suc s) u t r lt lr) (ap (λ (x : ℕ). eqb x 0) (share_low m (suc s) c t r lc lr)))
+    ∙ one_less (subset t u) (2 ^ (m * suc s)) (is_product m (suc s) (bit_xor u t)) (λ r. eqb (share m c r) 0) (s ^ ones (bit_xor u t))
+    (ap (λ (x : ℕ). count x (λ p. is_product m (suc s) (bit_xor u t) p && eqb (share m c p) 0)) (pow_step m s ∙ mul_comm (2 ^ (m * s)) (2 ^ m))
+    ∙ total_blocks (2 ^ m) (2 ^ (m * s)) (λ p. bit (is_product m (suc s) (bit_xor u t) p && eqb (share m c p) 0))
+    ∙ at (bit_xor u t) (xor_lt m u t l lt) (ℕ_discrete c s) (λ k. left_lower m s c (bit_xor u t) k (xor_lt m u t l lt))))
+    ∙ split_count m s u l
+  where
+    at : (v : ℕ) → v < 2 ^ m → Dec (c ≡ s)
+        → (c < s → total (2 ^ m) (λ t. count (2 ^ (m * s)) (λ r. is_product m (suc s) v (t * 2 ^ (m * s) + r) && eqb (share m c (t * 2 ^ (m * s) + r)) 0)) ≡ s ^ ones v)
+        → total (2 ^ m) (λ t. count (2 ^ (m * s)) (λ r. is_product m (suc s) v (t * 2 ^ (m * s) + r) && eqb (share m c (t * 2 ^ (m * s) + r)) 0)) ≡ s ^ ones v
+    at v lv (yes e) ih = rw e (left_last m s v lv)
+    at v lv (no n) ih = ih (omega arith)
+
+pub left_count : (m s c u : ℕ) → c ≤ s → u < 2 ^ m → count (2 ^ (m * suc s)) (λ p. is_product m (suc s) u p && eqb (share m c p) 0) ≡ s ^ ones u
+left_count m s c u lc l =
+    ap (λ (x : ℕ). count x (λ p. is_product m (suc s) u p && eqb (share m c p) 0)) (pow_step m s ∙ mul_comm (2 ^ (m * s)) (2 ^ m))
+    ∙ total_blocks (2 ^ m) (2 ^ (m * s)) (λ p. bit (is_product m (suc s) u p && eqb (share m c p) 0))
+    ∙ at (ℕ_discrete c s)
+  where
+    at : Dec (c ≡ s)
+        → total (2 ^ m) (λ t. count (2 ^ (m * s)) (λ r. is_product m (suc s) u (t * 2 ^ (m * s) + r) && eqb (share m c (t * 2 ^ (m * s) + r)) 0)) ≡ s ^ ones u
+    at (yes e) = rw e (left_last m s u l)
+    at (no n) = left_lower m s c u (omega arith) l
+
+-- the numbers that are such a product of some term
+left_most_suc : (m s c : ℕ) → c ≤ s → count (2 ^ (m * suc s)) (λ p. any (2 ^ m) (λ u. is_product m (suc s) u p && eqb (share m c p) 0)) ≤ suc s ^ m
+left_most_suc m s c lc =
+    omega (
+      arith,
+      count_any (2 ^ (m * suc s)) (2 ^ m) (λ u p. is_product m (suc s) u p && eqb (share m c p) 0),
+      total_congr (2 ^ m) (λ u. count (2 ^ (m * suc s)) (λ p. is_product m (suc s) u p && eqb (share m c p) 0)) (λ u. s ^ ones u) (λ u l. left_count m s c u lc l),
+      all_products m s,
+    )
+
+pub left_most : (m s c : ℕ) → c < s → count (2 ^ (m * s)) (λ p. any (2 ^ m) (λ u. is_product m s u p && eqb (share m c p) 0)) ≤ s ^ m
+left_most m zero c l = absurd (omega arith)
+left_most m (suc s) c l = left_most_suc m s c (omega arith)

@@ -18,13 +18,14 @@ use Rattle.finite.proofs.Testing.{clash, pick_true, pick_false, or_false_right, 
 use Rattle.finite.proofs.Elements.{has_none}
 use Rattle.anf.specs.Terms.{passing}
 use Rattle.anf.proofs.PassingLists.{passing_congr, passing_none}
-use Rattle.design.specs.Limits.{greatest_terms, broken}
+use Rattle.design.specs.Limits.{broken}
 use Rattle.design.proofs.Limits.{bounds}
 use Rattle.direct.specs.Direct.{is_product, chosen, stands, direct_list}
 use Rattle.direct.specs.Inside.Expanding.{appended, ending, emitted, brought}
 use Rattle.design.specs.Inside.Inserting.{inserted_all}
 use Rattle.direct.proofs.Products.{product_term}
-use Rattle.direct.proofs.WellFormed.{list_size}
+use Rattle.direct.proofs.WellFormed.{list_short}
+use Rattle.direct.specs.Inside.Outside.{Outside, most_terms}
 use Rattle.direct.proofs.Emission.{appended_within, ending_here, ending_other, through}
 use Rattle.design.proofs.Inserting.{inserted_all_append, inserted_one, inserted_none, inserted_passing, inserted_all_length}
 use Rattle.direct.proofs.Extensions.{chosen_none, chosen_with, extends, extends_none, extends_all, extends_skip, extends_each, extends_apart, Clean, clean_with, with_lt}
@@ -197,13 +198,13 @@ module _ (m s : ℕ) (place : ℕ → ℕ) (limits : broken m s 1 ≡ false) (c 
   gathered_all = gathered m s place (omega (arith, (bounds m s 1 limits).m_low)) (λ u. get_or w u 0) c b
 
   -- there is room for what each term brings
-  pub bringing_fits : (u : ℕ) → u < 2 ^ m → length (inserted_all (appended u (bringing m s place c b w)) []) + length (bringing m s place c b w u) ≤ greatest_terms
-  bringing_fits u l =
+  pub bringing_fits : Outside s place → c < s → (u : ℕ) → u < 2 ^ m → length (inserted_all (appended u (bringing m s place c b w)) []) + length (bringing m s place c b w u) ≤ most_terms
+  bringing_fits o lc u l =
       omega (
         arith,
         inserted_all_length (appended u (bringing m s place c b w)) [],
         appended_within (2 ^ m) u (bringing m s place c b w) l,
         inserted_all_length (appended (2 ^ m) (bringing m s place c b w)) [],
         ap length gathered_all,
-        list_size m s place (λ v. get_or w v 0) c b limits,
+        list_short m s place o (λ v. get_or w v 0) c b lc limits,
       )

@@ -18,6 +18,7 @@ use Rattle.finite.proofs.Elements.{has_none, some_element, ones_count, made_lt, 
 use Rattle.sharing.specs.Sharing.{share}
 use Rattle.sharing.proofs.Sharing.{share_lt, share_has}
 use Rattle.direct.specs.Direct.{is_product, chosen, after, component_for}
+use Rattle.direct.specs.Inside.Outside.{Outside}
 use Rattle.direct.proofs.Products.{product_at}
 
 pub chosen_lt : (m s p : ℕ) → chosen m s p < 2 ^ s
@@ -31,12 +32,6 @@ chosen_has m s p j l = made_has (λ i. not (eqb (share m i p) 0)) s j l
 -- a share that is not chosen is 0
 pub unchosen : (m s p j : ℕ) → j < s → has (chosen m s p) j ≡ false → share m j p ≡ 0
 unchosen m s p j l e = eqb-true _ _ (not-false _ (sym (chosen_has m s p j l) ∙ e))
-
--- ---- what is asked of a placement: where a share is not chosen, the component is one of the s, and its share is not chosen
-
-pub record Outside (s : ℕ) (place : ℕ → ℕ) : Type 0 where
-  pub some : (J : ℕ) → J < 2 ^ s → (c : ℕ) → c < s → has J c ≡ false → place J < s
-  pub outside : (J : ℕ) → J < 2 ^ s → (c : ℕ) → c < s → place J ≡ c → has J c ≡ false
 
 -- ---- the published rule: walking on from a chosen share one comes to one that is not; if none stood before a chosen one, all would be chosen
 

@@ -23,7 +23,7 @@ use Rattle.finite.proofs.Elements.{has_none, has_all}
 use Rattle.design.specs.Limits.{greatest_shares, broken}
 use Rattle.design.proofs.Limits.{bounds}
 use Rattle.direct.specs.Direct.{is_outside, loads, Loads, named_component, placed, component_for, published, placement_3, placement_4, placement_5}
-use Rattle.direct.proofs.Placement.{Outside}
+use Rattle.direct.specs.Inside.Outside.{Outside}
 use Rattle.direct.proofs.Bench.{published_three, published_four, published_five}
 
 -- ---- the component of a set by the table
@@ -130,6 +130,9 @@ module _ (s : ℕ) (l : List ℕ) (a : Loads s l) where
               let d : J ≡ J - 1 + 1 = omega arith in
               ap₂ has d (sym e ∙ at_set J z h) ∙ a.outside (J - 1) (omega arith)
           at (no z) (no h) = absurd (omega (arith, at_all J z (omega arith)))
+
+pub outside_loaded : (s : ℕ) (l : List ℕ) → loads s l ≡ true → Outside s (placed s l)
+outside_loaded s l e = placed_outside s l (loaded s l e)
 
 -- ---- the published table, by computing for each number of shares
 

@@ -14,7 +14,8 @@ use mir.Syntax.{w32, w64}
 use mir.Val.{Fits}
 use Rattle.finite.specs.Sets.{has}
 use Rattle.finite.proofs.Testing.{pick_true, pick_false}
-use Rattle.design.specs.Limits.{greatest_terms, broken}
+use Rattle.design.specs.Limits.{broken}
+use Rattle.direct.specs.Inside.Outside.{Outside, most_terms}
 use Rattle.design.proofs.Limits.{bounds}
 use Rattle.sharing.proofs.Sharing.{place_lt}
 use Rattle.direct.specs.Direct.{direct_list}
@@ -32,7 +33,7 @@ module _ (m s : ℕ) (place : ℕ → ℕ) (u c p J : ℕ) (z : u ≡ 0) (k : �
   one : k ≡ c → emitted m s place u c m p J ≡ p ∷ []
   one q = emitted_end m s place u c p J z ∙ ending_here place c p J (sym e ∙ q)
 
-  pub room_here : k ≡ c → (l : List ℕ) → length l + length (emitted m s place u c m p J) ≤ greatest_terms → length l < greatest_terms
+  pub room_here : k ≡ c → (l : List ℕ) → length l + length (emitted m s place u c m p J) ≤ most_terms → length l < most_terms
   room_here q l r = omega (arith, ap length (one q))
 
   pub goes_here : k ≡ c → (l l' : List ℕ) → l' ≡ inserted p l → l' ≡ inserted_all (emitted m s place u c m p J) l
@@ -54,8 +55,8 @@ module _ (m s u v : ℕ) (t : 2 ^ v ≤ u) (h : u < 2 * 2 ^ v) (l : u < 2 ^ m) w
     shared = emitted_each m s u v t h l place c p J ∙ ap (λ (x : ℕ). appended s (onward m s place c x v p J)) (sym e)
 
     -- q and K are p and J with share j too
-    pub room_share : (l₀ l₁ : List ℕ) → length l₀ + length (emitted m s place u c m p J) ≤ greatest_terms → (j q K : ℕ) → j < s → l₁ ≡ inserted_all (appended j (onward m s place c r v p J)) l₀
-        → q ≡ bit_or p (2 ^ (m * j + v)) → K ≡ bit_or J (2 ^ j) → length l₁ + length (emitted m s place r c m q K) ≤ greatest_terms
+    pub room_share : (l₀ l₁ : List ℕ) → length l₀ + length (emitted m s place u c m p J) ≤ most_terms → (j q K : ℕ) → j < s → l₁ ≡ inserted_all (appended j (onward m s place c r v p J)) l₀
+        → q ≡ bit_or p (2 ^ (m * j + v)) → K ≡ bit_or J (2 ^ j) → length l₁ + length (emitted m s place r c m q K) ≤ most_terms
     room_share l₀ l₁ o j q K i le qe Ke =
         let this : emitted m s place r c m q K ≡ onward m s place c r v p J j = unfold onward in ap₂ (emitted m s place r c m) qe Ke in
         omega (
@@ -123,8 +124,8 @@ module _ (m s : ℕ) (place : ℕ → ℕ) (limits : broken m s 1 ≡ false) (c 
         unfolding bringing
         brought_is = pick_true (has (get_or w u 0) b) _ [] (sym has_word ∙ t)
 
-        pub room_term : length l + length (emitted m s place u c m 0 0) ≤ greatest_terms
-        room_term = let j : u < 2 ^ m = omega (arith, u_low) in omega (arith, ap length e, ap length brought_is, bringing_fits m s place limits c b w u j)
+        pub room_term : Outside s place → c < s → length l + length (emitted m s place u c m 0 0) ≤ most_terms
+        room_term o lc = let j : u < 2 ^ m = omega (arith, u_low) in omega (arith, ap length e, ap length brought_is, bringing_fits m s place limits c b w o lc u j)
 
         pub gathers_more : (l' : List ℕ) → l' ≡ inserted_all (emitted m s place u c m 0 0) l → l' ≡ inserted_all (appended (u + 1) (bringing m s place c b w)) []
         gathers_more l' o = o ∙ ap₂ (λ (ts y : List ℕ). inserted_all ts y) (sym brought_is) e ∙ appended_turn (bringing m s place c b w) u []

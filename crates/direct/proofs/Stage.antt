@@ -34,7 +34,8 @@ use Rattle.sharing.proofs.Dependence.{clear_variables, setting_clear}
 use Rattle.direct.specs.Direct.{is_product, chosen, stands, direct_list, direct_lists, direct_stage, direct_sharing}
 use Rattle.direct.proofs.Products.{product_term}
 use Rattle.direct.proofs.Expansion.{expansion}
-use Rattle.direct.proofs.Placement.{unchosen, chosen_lt, Outside, product_component}
+use Rattle.direct.proofs.Placement.{unchosen, chosen_lt, product_component}
+use Rattle.direct.specs.Inside.Outside.{Outside}
 
 -- ---- the lists
 

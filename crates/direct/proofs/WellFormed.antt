@@ -5,13 +5,13 @@ use mathlib.Core.List.{List, [], ◌∷◌}
 use Prim.Native.Nat.{ℕ, suc, ◌*◌, ◌/◌, ◌%◌, ◌^◌, ◌≤◌, ◌<◌}
 use native.Mathlib.Nat.{mod-lt, div-add-mod, div-lt_iff_lt-mul, mul_comm}
 use native.Mathlib.Omega.{arith}
-use lib.Dec.{leb}
+use lib.Dec.{leb, eqb}
 use lib.ListN.{length, get_or}
-use borrow.Author.Tests.{leb-true}
+use borrow.Author.Tests.{leb-true, eqb-true, eq-eqb}
 use Rattle.finite.specs.Tests.{implies, all, any}
 use Rattle.finite.specs.Sets.{has}
 use Rattle.finite.proofs.Testing.{all_at, implies_at, any_some, any_at}
-use Rattle.std.proofs.lemmas.Bool.{and_parts}
+use Rattle.std.proofs.lemmas.Bool.{and_parts, and_from}
 use Rattle.finite.proofs.Counting.{count_mono}
 use Rattle.anf.specs.NormalForm.{subset_sum}
 use Rattle.anf.specs.Tables.{entry, TableFits}
@@ -19,8 +19,11 @@ use Rattle.anf.proofs.PassingLists.{passing_terms, passing_length}
 use Rattle.design.specs.Limits.{greatest_terms, broken}
 use Rattle.design.specs.WellFormed.{ListFits, StageFits, WellFormed}
 use Rattle.design.proofs.Limits.{bounds}
-use Rattle.direct.specs.Direct.{is_product, stands, direct_list, direct_stage, direct_sharing}
-use Rattle.direct.proofs.Counts.{products_most}
+use Rattle.direct.specs.Direct.{is_product, chosen, stands, direct_list, direct_stage, direct_sharing}
+use Rattle.direct.proofs.Counts.{products_most, left_most}
+use Rattle.direct.proofs.Placement.{unchosen, chosen_lt}
+use Rattle.direct.specs.Inside.Outside.{Outside, most_terms}
+use Rattle.sharing.specs.Sharing.{share}
 use Rattle.direct.proofs.Stage.{list_at, lists_length}
 
 -- within the limits (s + 1)^m is at most the greatest number of terms: computed for each m and s
@@ -49,6 +52,38 @@ list_size m s place f c b h =
     some p e =
         let u = any_some (2 ^ m) (λ u. is_product m s u p && has (f u) b) (unfold stands in (and_parts _ _ e).0) in
         any_at (2 ^ m) (λ u. is_product m s u p) u.0 u.1 (and_parts (is_product m s u.0 p) (has (f u.0) b) u.2).0
+
+-- by a placement that sends no product to a component whose share it names, a list has at most s^m terms, which is at most 1,024
+shorter_powers : all 7 (λ m. all 6 (λ s. implies (not (broken m s 1)) (leb (s ^ m) most_terms))) ≡ true
+unfolding all broken
+shorter_powers = refl
+
+few_left : (m s : ℕ) → broken m s 1 ≡ false → s ^ m ≤ most_terms
+few_left m s h =
+    let b = bounds m s 1 h in
+    leb-true (s ^ m) most_terms
+    (implies_at (not (broken m s 1)) (leb (s ^ m) most_terms) (all_at 6 _ (all_at 7 _ shorter_powers m (omega (arith, b.m_high))) s (omega (arith, b.s_high))) (ap not h))
+
+pub list_short : (m s : ℕ) (place : ℕ → ℕ) → Outside s place → (f : ℕ → ℕ) (c b : ℕ) → c < s → broken m s 1 ≡ false
+    → length (direct_list m s place f c b) ≤ most_terms
+unfolding direct_list
+list_short m s place o f c b lc h =
+    omega (
+      arith,
+      passing_length (2 ^ (m * s)) (stands m s place f c b),
+      count_mono (2 ^ (m * s)) (stands m s place f c b) (λ p. any (2 ^ m) (λ u. is_product m s u p && eqb (share m c p) 0)) (λ p l e. left p e),
+      left_most m s c lc,
+      few_left m s h,
+    )
+  where
+    left : (p : ℕ) → stands m s place f c b p ≡ true → any (2 ^ m) (λ u. is_product m s u p && eqb (share m c p) 0) ≡ true
+    left p e =
+        let d : (any (2 ^ m) (λ u. is_product m s u p && has (f u) b) && eqb (place (chosen m s p)) c) ≡ true = unfold stands in e in
+        let q = and_parts (any (2 ^ m) (λ u. is_product m s u p && has (f u) b)) (eqb (place (chosen m s p)) c) d in
+        let u = any_some (2 ^ m) (λ u. is_product m s u p && has (f u) b) q.0 in
+        let z : share m c p ≡ 0 = unchosen m s p c lc (o.outside (chosen m s p) (chosen_lt m s p) c lc (eqb-true _ _ q.1)) in
+        any_at (2 ^ m) (λ u. is_product m s u p && eqb (share m c p) 0) u.0 u.1
+        (and_from _ _ (and_parts (is_product m s u.0 p) (has (f u.0) b) u.2).0 (eq-eqb _ _ z))
 
 pub list_fits : (m s : ℕ) (place : ℕ → ℕ) (f : ℕ → ℕ) (c b : ℕ) → broken m s 1 ≡ false → ListFits (m * s) (direct_list m s place f c b)
 list_fits m s place f c b h = record { size = list_size m s place f c b h; terms = unfold direct_list in passing_terms (m * s) (stands m s place f c b) }

@@ -4,13 +4,17 @@
 ghost use Rattle.std.specs.Prelude.{◌≡◌, false, ◌+◌, ◌-◌, ◌^◌, ◌<◌, ◌≤◌, length};
 ghost use Rattle.std.specs.Int.Bits.{bit_or};
 ghost use Rattle.finite.specs.Sets.{has as has_element};
-ghost use Rattle.design.specs.Limits.{greatest_shares, greatest_terms, broken};
+ghost use Rattle.design.specs.Limits.{greatest_shares, broken};
 ghost use Rattle.design.specs.Inside.Inserting.{inserted_all};
-ghost use Rattle.direct.specs.Direct.{is_outside, loads, published};
+ghost use Rattle.direct.specs.Direct.{is_outside, loads, published, placed};
+ghost use Rattle.direct.specs.Inside.Outside.{Outside, most_terms};
 
 use design::{Head, TermList};
 use finite::power;
 use reasons::Reason;
+
+/// The greatest number of terms of a list of a direct sharing: s^m within the limits.
+pub const MOST_TERMS: usize = 1024;
 
 // The published placements for three, four and five shares.
 const OF_THREE: [u8; 6] = [3, 1, 3, 2, 2, 1];
@@ -95,6 +99,7 @@ pub struct Rule<'a> {
     pub s: usize,
     pub placement: &'a [u8],
     pub ghost limits: { broken m s 1 ≡ false },
+    pub ghost outside: { Outside s (placed s placement.now) },
 }
 
 impl Rule<'_> {
@@ -130,9 +135,9 @@ impl Rule<'_> {
 
     // Puts into their places the products of the variables of u, on top of p, for which the shares `chosen` are chosen so far: those that go to the
     // component `to`.
-    fn expand(&self, u: u32, to: usize, p: u32, chosen: u32, list: &mut TermList)
+    fn expand(&self, u: u32, to: usize, p: u32, chosen: u32, list: &mut TermList<MOST_TERMS>)
         requires within { u < 2 ^ self.now.m }
-        requires room { length list.old + length (emits self.now u to p chosen) ≤ greatest_terms }
+        requires room { length list.old + length (emits self.now u to p chosen) ≤ most_terms }
         ensures { list.new ≡ inserted_all (emits self.now u to p chosen) list.old }
     {
         if u == 0 {
@@ -150,7 +155,8 @@ impl Rule<'_> {
     }
 
     /// Gathers the list of bit b of the component `to` from the coefficient words.
-    pub fn gather(&self, words: &[u8], to: usize, b: usize, list: &mut TermList)
+    pub fn gather(&self, words: &[u8], to: usize, b: usize, list: &mut TermList<MOST_TERMS>)
+        requires component { to < self.now.s }
         requires bit { b < self.now.m }
         requires entries { 2 ^ self.now.m ≤ length words.now }
         ensures { list.new ≡ list_by self.now words.now to b }

@@ -5,6 +5,7 @@ use mathlib.Core.Bool.{false}
 use mathlib.Core.List.{List, [], ◌∷◌, ◌++◌}
 use Prim.Native.Nat.{ℕ, ◌+◌, ◌*◌, ◌/◌, ◌%◌, ◌^◌, ◌≤◌, ◌<◌}
 use native.Mathlib.Numerals.{add-one}
+use native.Mathlib.Nat.{div-lt_iff_lt-mul, mul_comm}
 use native.Mathlib.Omega.{arith}
 use Rattle.std.proofs.Math.Nat.{pow-le-pow_left, pow-le-pow_right, mul-le-mul}
 use lib.Pow.{pow_mono}
@@ -15,7 +16,7 @@ use mir.Syntax.{w32, w64}
 use mir.Val.{Fits}
 use Rattle.finite.specs.Tests.{total}
 use Rattle.finite.proofs.Testing.{tabulate_at, tabulate_length}
-use Rattle.design.specs.Limits.{greatest_width, greatest_shares, greatest_terms, broken}
+use Rattle.design.specs.Limits.{greatest_width, greatest_shares, broken}
 use Rattle.records.specs.Records.{a_record, list_record, end_record}
 use Rattle.records.specs.Encode.{front_bytes, lists_bytes}
 use Rattle.records.specs.Inside.Writes.{Room, Writes}
@@ -26,6 +27,7 @@ use Rattle.records.proofs.Writes.{room_first, room_then, writes_then}
 use Rattle.records.proofs.Pieces.{encode_pieces, stage_pieces}
 use Rattle.records.proofs.Pieces as pieces
 use Rattle.direct.specs.Direct.{direct_list, direct_lists}
+use Rattle.direct.specs.Inside.Outside.{most_terms}
 use Rattle.producer.specs.Producing.{terms_count, produced_length}
 use Rattle.producer.specs.Inside.Filing.{one_stage_file, word_bound, terms_bound}
 
@@ -35,7 +37,10 @@ module _ (m s : ℕ) (limits : broken m s 1 ≡ false) where
   pub bits_fit : Fits w64 (m * s)
   bits_fit = record { fits = omega (arith, (bounds m s 1 limits).bits) }
 
-pub short_list : (l slice : List ℕ) → slice ≡ l → length l ≤ greatest_terms → 4 * length slice < 65536
+  pub component_within : (i : ℕ) → i < m * s → i / m < s
+  component_within i l = (div-lt_iff_lt-mul (omega (arith, (bounds m s 1 limits).m_low))).1 (omega (arith, mul_comm m s, l))
+
+pub short_list : (l slice : List ℕ) → slice ≡ l → length l ≤ most_terms → 4 * length slice < 65536
 short_list l slice e h = omega (arith, ap length e)
 
 -- ---- the numbers of the head, and the tables

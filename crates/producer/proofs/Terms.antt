@@ -24,7 +24,8 @@ use Rattle.anf.proofs.SubsetSums.{subset_sum_lt}
 use Rattle.design.proofs.FileLength.{stage_length, encode_length}
 use Rattle.direct.specs.Direct.{is_product, chosen, Loads, placed, stands, direct_list, direct_stage, direct_sharing}
 use Rattle.direct.proofs.Products.{product_term}
-use Rattle.direct.proofs.Placement.{Outside, product_component}
+use Rattle.direct.proofs.Placement.{product_component}
+use Rattle.direct.specs.Inside.Outside.{Outside}
 use Rattle.direct.proofs.PlacementTables.{placed_outside}
 use Rattle.direct.proofs.Counts.{products_count}
 use Rattle.direct.proofs.Stage.{term_small, list_at, lists_length}

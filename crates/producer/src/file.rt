@@ -2,7 +2,7 @@
 ghost use Rattle.std.specs.Prelude.{◌≡◌, ◌+◌, ◌^◌, ◌≤◌, length, get_or};
 
 use design::TermList;
-use direct::Rule;
+use direct::{MOST_TERMS, Rule};
 use finite::power;
 use records::{Writer, record_size};
 
@@ -47,7 +47,7 @@ impl DirectFile<'_> {
         requires { Room writer.old (lists_bytes (lists_of self.now)) }
         ensures { Writes writer.old writer.new (lists_bytes (lists_of self.now)) }
     {
-        let mut list = TermList::new();
+        let mut list: TermList<MOST_TERMS> = TermList::new();
         for i in 0..self.rule.m * self.rule.s {
             self.rule
                 .gather(self.words, i / self.rule.m, i % self.rule.m, &mut list);

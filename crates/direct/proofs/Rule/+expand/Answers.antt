@@ -1,12 +1,13 @@
 -- Where no variable is left, the product is put into its place; else one share after the other is chosen for the highest variable, and what is left of the
 -- term has fewer.
+use Rattle.std.proofs.Common.{arith}
 use Rattle.direct.proofs.Emission.{appended_zero}
 use Rattle.direct.proofs.RuleLists.{room_here, goes_here, goes_elsewhere, fewer_left, left_within, row_fits, place_fits, place_low, share_low}
 use Rattle.direct.proofs.RuleLists.{room_share, shares_more, shares_all}
 use Rattle.direct.proofs.Rule.+expand.Goals as goal
 
 pub insert-requires : goal.insert-requires
-insert-requires t c = search room_here
+insert-requires t c = (omega arith, search room_here)
 
 pub returns-then-component-to : goal.returns-then-component-to
 returns-then-component-to t c = search goes_here

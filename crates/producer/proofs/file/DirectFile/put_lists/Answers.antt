@@ -1,4 +1,4 @@
-use Rattle.producer.proofs.DirectFiles.{bits_fit, short_list, no_list, list_room, lists_more, lists_all}
+use Rattle.producer.proofs.DirectFiles.{bits_fit, component_within, short_list, no_list, list_room, lists_more, lists_all}
 use Rattle.producer.proofs.file.DirectFile.put_lists.Goals as goal
 
 pub overflow_mul-i-end : goal.overflow_mul-i-end
@@ -18,3 +18,6 @@ loop-i-preserved c = search lists_more
 
 pub returns : goal.returns
 returns c = search lists_all
+
+pub gather-requires-clause-component : goal.gather-requires-clause-component
+gather-requires-clause-component c = search component_within
