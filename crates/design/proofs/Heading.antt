@@ -67,9 +67,6 @@ module _ (m s k : ℕ) where
 -- ---- numbers of a head within the limits
 
 module _ (m s k : ℕ) (l : broken m s k ≡ false) where
-  pub bits_fit : Fits w64 (m * s)
-  bits_fit = record { fits = omega (arith, (bounds m s k l).bits) }
-
   pub stage_fits : Fits w64 (1 + m * s)
   stage_fits = record { fits = omega (arith, (bounds m s k l).bits) }
 

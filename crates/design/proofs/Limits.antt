@@ -1,10 +1,12 @@
 -- What a head within the limits says: the limits as inequalities, one by one, and what follows for products.
-use Prim.Native.Nat.{ℕ, ◌+◌, ◌*◌, ◌≤◌}
+use Prim.Native.Nat.{ℕ, ◌+◌, ◌*◌, ◌≤◌, ◌<◌}
 use mathlib.Core.Path.{◌≡◌, refl, ap}
 use mathlib.Core.Bool.{Bool, true, false}
 use native.Mathlib.Omega.{arith}
 use native.Mathlib.Nat.{mul-le-mul}
 use borrow.Author.Tests.{ltb-false, le-ltb}
+use mir.Syntax.{w64}
+use mir.Val.{Fits}
 use mathlib.Core.List.{[], ◌∷◌}
 use Rattle.finite.specs.Tests.{pick}
 use Rattle.std.proofs.lemmas.Bool.{or_parts}
@@ -59,6 +61,18 @@ pub unbroken : (m s k : ℕ) → 1 ≤ m → m ≤ greatest_width → least_shar
     → broken m s k ≡ false
 unfolding broken
 unbroken m s k a b c d e f g = simp (le-ltb _ _ a, le-ltb _ _ b, le-ltb _ _ c, le-ltb _ _ d, le-ltb _ _ e, le-ltb _ _ f, le-ltb _ _ g)
+
+-- ---- the numbers of a head within the limits fit a byte of a file each, and their product a word
+
+module _ (m s k : ℕ) (limits : broken m s k ≡ false) where
+  pub width_byte : m < 256
+  width_byte = omega (arith, (bounds m s k limits).m_high)
+
+  pub shares_byte : s < 256
+  shares_byte = omega (arith, (bounds m s k limits).s_high)
+
+  pub bits_fit : Fits w64 (m * s)
+  bits_fit = record { fits = omega (arith, (bounds m s k limits).bits) }
 
 -- with fewer stages too
 pub one_stage : (m s k : ℕ) → broken m s k ≡ false → broken m s 1 ≡ false

@@ -1,7 +1,6 @@
 -- The file of two designs joined into one: its pieces, its length, and writing it. Premises stand as the code has them: w is the writer at first, w₁, w₂, ..
 -- after each step.
 -- Assumes nothing.
-use mathlib.Core.Bool.{false}
 use mathlib.Core.Path.{◌≡◌, refl, sym, ap, ap₂, ◌∙◌, subst}
 use mathlib.Core.List.{List, ◌++◌, map, append_assoc}
 use Prim.Native.Nat.{ℕ, ◌+◌, ◌^◌, ◌≤◌, ◌<◌}
@@ -19,7 +18,7 @@ use Rattle.records.specs.declared.writer.Writer.{Writer}
 use Rattle.records.proofs.Concat.{concat_map_append}
 use Rattle.records.proofs.Pieces.{encode_pieces}
 use Rattle.records.proofs.Writes.{room_first, room_then, writes_then}
-use Rattle.design.specs.Limits.{greatest_points, greatest_stages, broken}
+use Rattle.design.specs.Limits.{greatest_points, greatest_stages}
 use Rattle.design.specs.Reading.{means, reading}
 use Rattle.design.specs.WellFormed.{WellFormed}
 use Rattle.design.proofs.FileLength.{parts_length}
@@ -70,13 +69,6 @@ module _ (d e : Design) (em : d.m ≡ e.m) (v : WellFormed d) (w : WellFormed e)
 
   pub box_through : Through t u
   box_through = rw (et, eu) (record { size = rw et at box_few; below = λ x l. omega (arith, v.box.below x (omega (arith, v.box.size)), w.box.size, ap (λ (n : ℕ). 2 ^ n) em) })
-
-module _ (m s k : ℕ) (limits : broken m s k ≡ false) where
-  pub width_byte : m < 256
-  width_byte = omega (arith, (bounds m s k limits).m_high)
-
-  pub shares_byte : s < 256
-  shares_byte = omega (arith, (bounds m s k limits).s_high)
 
 pub stages_byte : (k n : ℕ) → k + n ≤ greatest_stages → k + n < 256
 stages_byte k n h = omega arith

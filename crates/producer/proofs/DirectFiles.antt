@@ -34,24 +34,15 @@ use Rattle.producer.specs.Inside.Filing.{one_stage_file, word_bound, terms_bound
 -- ---- the lists
 
 module _ (m s : ℕ) (limits : broken m s 1 ≡ false) where
-  pub bits_fit : Fits w64 (m * s)
-  bits_fit = record { fits = omega (arith, (bounds m s 1 limits).bits) }
-
   pub component_within : (i : ℕ) → i < m * s → i / m < s
   component_within i l = (div-lt_iff_lt-mul (omega (arith, (bounds m s 1 limits).m_low))).1 (omega (arith, mul_comm m s, l))
 
 pub short_list : (l slice : List ℕ) → slice ≡ l → length l ≤ most_terms → 4 * length slice < 65536
 short_list l slice e h = omega (arith, ap length e)
 
--- ---- the numbers of the head, and the tables
+-- ---- the tables
 
 module _ (m s : ℕ) (limits : broken m s 1 ≡ false) where
-  pub width_byte : m < 256
-  width_byte = omega (arith, (bounds m s 1 limits).m_high)
-
-  pub shares_byte : s < 256
-  shares_byte = omega (arith, (bounds m s 1 limits).s_high)
-
   pub table_short : (t : List ℕ) → length t ≡ 2 ^ m → length t < 65536
   table_short t e = omega (arith, pow_mono (bounds m s 1 limits).m_high)
 
@@ -207,6 +198,9 @@ module _ (m s : ℕ) (limits : broken m s 1 ≡ false) (w : List ℕ) where
 
 -- ---- `size`: k is how many terms there are, a what the head takes, b what a table takes, e what the end takes
 
+pub heads_fit : (m s : ℕ) → broken m s 1 ≡ false → Fits w64 (4 * (m * s))
+heads_fit m s limits = record { fits = omega (arith, (bounds m s 1 limits).bits) }
+
 module _ (m s : ℕ) (limits : broken m s 1 ≡ false) (t : List ℕ) (h : length t ≡ 2 ^ m) where
   pub table_body : length t < 65536
   table_body = table_short m s limits t h
@@ -219,19 +213,19 @@ module _ (m s : ℕ) (limits : broken m s 1 ≡ false) (t : List ℕ) (h : lengt
     tables_sum = record { fits = omega (arith, table_body) }
 
     module _ (k : ℕ) (l : k ≤ terms_bound) where
-      pub lists_sum : Fits w64 (m * s + k)
+      pub terms_fit : Fits w64 (4 * k)
+      terms_fit = record { fits = omega arith }
+
+      pub lists_sum : Fits w64 (4 * (m * s) + 4 * k)
       lists_sum = record { fits = omega (arith, (bounds m s 1 limits).bits) }
 
-      pub lists_fit : Fits w64 (4 * (m * s + k))
-      lists_fit = record { fits = omega (arith, (bounds m s 1 limits).bits) }
-
-      pub with_lists : Fits w64 (a + 2 * b + 4 * (m * s + k))
+      pub with_lists : Fits w64 (a + 2 * b + (4 * (m * s) + 4 * k))
       with_lists = record { fits = omega (arith, table_body, (bounds m s 1 limits).bits) }
 
       module _ (e : ℕ) (ee : e ≡ 4 + 0) where
-        pub with_end : Fits w64 (a + 2 * b + 4 * (m * s + k) + e)
+        pub with_end : Fits w64 (a + 2 * b + (4 * (m * s) + 4 * k) + e)
         with_end = record { fits = omega (arith, table_body, (bounds m s 1 limits).bits) }
 
-        pub size_all : (words : ℕ → ℕ) → k ≡ terms_count m s words → a + 2 * b + 4 * (m * s + k) + e ≡ produced_length m s words
+        pub size_all : (words : ℕ → ℕ) → k ≡ terms_count m s words → a + 2 * b + (4 * (m * s) + 4 * k) + e ≡ produced_length m s words
         unfolding produced_length
         size_all words ek = omega arith

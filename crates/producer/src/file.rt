@@ -1,10 +1,10 @@
 // The file of a direct sharing: what it is made of, its length, and writing it.
 ghost use Rattle.std.specs.Prelude.{◌≡◌, ◌+◌, ◌^◌, ◌≤◌, length, get_or};
 
-use design::TermList;
+use design::{Head, TermList};
 use direct::{MOST_TERMS, Rule};
 use finite::power;
-use records::{Writer, record_size};
+use records::{RECORD_HEAD_SIZE, TERM_SIZE, Writer, record_size};
 
 // A file that is not written yet: the rule, the table of the box, and the coefficient words of the box.
 #[derive(Clone, Copy)]
@@ -33,12 +33,12 @@ impl DirectFile<'_> {
         terms
     }
 
-    // How many bytes the file takes: the head, S and G, the lists, of 4 bytes each and 4 a term, the end.
+    // How many bytes the file takes: the head, S and G, the lists, the end.
     pub fn size(&self) -> usize
         ensures { result ≡ produced_length self.now.rule.m self.now.rule.s (λ u. get_or self.now.words.now u 0) }
     {
-        let tables = record_size(3) + 2 * record_size(self.table.len());
-        let lists = 4 * (self.rule.m * self.rule.s + self.terms());
+        let tables = record_size(Head::SIZE) + 2 * record_size(self.table.len());
+        let lists = RECORD_HEAD_SIZE * (self.rule.m * self.rule.s) + TERM_SIZE * self.terms();
         tables + lists + record_size(0)
     }
 

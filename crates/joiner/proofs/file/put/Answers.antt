@@ -1,6 +1,7 @@
 -- `put` meets its contract: four pieces, one behind the other.
 use Rattle.design.specs.Inside.Held.{design_of}
-use Rattle.joiner.proofs.JoinedFile.{box_through, width_byte, shares_byte, stages_byte, front_room, first_room, second_room, end_room, file_written}
+use Rattle.design.proofs.Limits.{width_byte, shares_byte}
+use Rattle.joiner.proofs.JoinedFile.{box_through, stages_byte, front_room, first_room, second_room, end_room, file_written}
 use Rattle.joiner.proofs.file.put.Goals as goal
 
 pub sent_through-table-requires : goal.sent_through-table-requires

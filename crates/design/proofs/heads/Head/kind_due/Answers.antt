@@ -1,5 +1,6 @@
 -- `design::Head::kind_due` meets its contract: each way out is a law of `Heading`.
-use Rattle.design.proofs.Heading.{bits_fit, stage_fits, kind_head, kind_box, kind_end, kind_table, kind_list}
+use Rattle.design.proofs.Limits.{bits_fit}
+use Rattle.design.proofs.Heading.{stage_fits, kind_head, kind_box, kind_end, kind_table, kind_list}
 use Rattle.design.proofs.heads.Head.kind_due.Goals as goal
 
 pub returns-then-i-eq0 : goal.returns-then-i-eq0

@@ -1,5 +1,6 @@
 -- `design::Head::last` meets its contract: the limits bound the number of records.
-use Rattle.design.proofs.Heading.{bits_fit, stage_fits, stages_fit, last_fits, last_is, last_low}
+use Rattle.design.proofs.Limits.{bits_fit}
+use Rattle.design.proofs.Heading.{stage_fits, stages_fit, last_fits, last_is, last_low}
 use Rattle.design.proofs.heads.Head.last.Goals as goal
 
 pub overflow_mul-result : goal.overflow_mul-result

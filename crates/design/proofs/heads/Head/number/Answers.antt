@@ -1,6 +1,7 @@
 -- `design::Head::number` meets its contract: a stage's records stand behind those of the stages before it, all before the end.
 use Rattle.std.proofs.Common.{lit≤}
-use Rattle.design.proofs.Heading.{bits_fit, stage_fits, before_fits, table_fits, number_fits, number_is, number_before, number_known}
+use Rattle.design.proofs.Limits.{bits_fit}
+use Rattle.design.proofs.Heading.{stage_fits, before_fits, table_fits, number_fits, number_is, number_before, number_known}
 use Rattle.design.proofs.heads.Head.number.Goals as goal
 
 pub overflow_mul-result : goal.overflow_mul-result

@@ -1,6 +1,7 @@
 -- `DirectFile::put` meets its contract: four pieces, one behind the other.
 use Rattle.std.proofs.Common.{rules}
-use Rattle.producer.proofs.DirectFiles.{width_byte, shares_byte, table_short, front_room, table_room, lists_room, end_room, file_written}
+use Rattle.design.proofs.Limits.{width_byte, shares_byte}
+use Rattle.producer.proofs.DirectFiles.{table_short, front_room, table_room, lists_room, end_room, file_written}
 use Rattle.producer.proofs.file.DirectFile.put.Goals as goal
 
 pub front-requires-clause-room : goal.front-requires-clause-room

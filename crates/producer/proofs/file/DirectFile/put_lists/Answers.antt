@@ -1,4 +1,5 @@
-use Rattle.producer.proofs.DirectFiles.{bits_fit, component_within, short_list, no_list, list_room, lists_more, lists_all}
+use Rattle.design.proofs.Limits.{bits_fit}
+use Rattle.producer.proofs.DirectFiles.{component_within, short_list, no_list, list_room, lists_more, lists_all}
 use Rattle.producer.proofs.file.DirectFile.put_lists.Goals as goal
 
 pub overflow_mul-i-end : goal.overflow_mul-i-end

@@ -1,5 +1,6 @@
 -- `DirectFile::size` meets its contract: the records of the file, summed.
-use Rattle.producer.proofs.DirectFiles.{bits_fit, table_body, tables_twice, tables_sum, lists_sum, lists_fit, with_lists, with_end, size_all}
+use Rattle.design.proofs.Limits.{bits_fit}
+use Rattle.producer.proofs.DirectFiles.{table_body, tables_twice, tables_sum, heads_fit, terms_fit, lists_sum, with_lists, with_end, size_all}
 use Rattle.producer.proofs.file.DirectFile.size.Goals as goal
 
 pub record_size-requires-2 : goal.record_size-requires-2
@@ -14,11 +15,14 @@ overflow_add-tables c = search tables_sum
 pub overflow_mul-lists : goal.overflow_mul-lists
 overflow_mul-lists c = search bits_fit
 
+pub overflow_mul-lists-2 : goal.overflow_mul-lists-2
+overflow_mul-lists-2 c = search heads_fit
+
+pub overflow_mul-lists-3 : goal.overflow_mul-lists-3
+overflow_mul-lists-3 c = search terms_fit
+
 pub overflow_add-lists : goal.overflow_add-lists
 overflow_add-lists c = search lists_sum
-
-pub overflow_mul-lists-2 : goal.overflow_mul-lists-2
-overflow_mul-lists-2 c = search lists_fit
 
 pub overflow_add-result : goal.overflow_add-result
 overflow_add-result c = search with_lists
