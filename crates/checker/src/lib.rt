@@ -23,10 +23,12 @@ pub use refusals::Refusal;
 use stages::{first_met, first_wrong, offending, tries};
 use tables::chain_is_box;
 
-/// What judging a file comes to, the number of stages where it is accepted, and how many trials it took.
+/// What judging a file comes to.
 #[derive(Clone, Copy, Debug, PartialEq, Eq)]
 pub struct Judgement {
+    /// The number of stages where it is accepted, or the reason of the refusal.
     pub outcome: Result<usize, Refusal>,
+    /// How many trials it took (RULES 7.4).
     pub trials: usize,
 }
 
@@ -49,10 +51,12 @@ struct StageJudgement {
     trials: usize,
 }
 
-/// What a verdict can take: bytes of workspace, and the most trials.
+/// What a verdict can take, by the head alone (RULES 7.6).
 #[derive(Clone, Copy, Debug, PartialEq, Eq)]
 pub struct Needs {
+    /// How many bytes of workspace it needs.
     pub workspace: usize,
+    /// The most trials that it takes.
     pub trials: usize,
 }
 
@@ -100,7 +104,8 @@ fn judge_stage(design: &DesignFile<'_>, t: usize, workspace: &mut [u8]) -> Stage
 fn judge_stages(design: &DesignFile<'_>, workspace: &mut [u8]) -> Judgement
     requires cleared { Cleared (design_of design.now) workspace.old }
     requires permutations { TablesPermute (design_of design.now) }
-    ensures value { judged_of result ≡ with_trials (design_of design.now) (stages_judged (design_of design.now)) }
+    ensures value { let d = design_of design.now in
+        judged_of result ≡ with_trials d (stages_judged d) }
     ensures workspace_unchanged { workspace.new ≡ workspace.old }
 {
     let k = design.head.k;

@@ -93,14 +93,18 @@ pub fn jestrunas_produce(
     placement: &[u8],
     output: &mut [u8],
 ) -> Produced
-    ensures value { result ≡ c_produced (producing m s table.now placement.now (length output.old)) }
+    ensures value { result
+        ≡ c_produced (producing m s table.now placement.now (length output.old)) }
     ensures output_after { output.new ≡ output_after m s table.now placement.now output.old }
-    ensures succeeds { (result.reason ≡ 0) ↔ Succeeds m s table.now placement.now (length output.old) }
-    ensures explained { ProducingExplained m s table.now placement.now (length output.old) result.reason }
+    ensures succeeds { (result.reason ≡ 0)
+        ↔ Succeeds m s table.now placement.now (length output.old) }
+    ensures explained { ProducingExplained m s table.now placement.now (length output.old)
+        result.reason }
     ensures impossible { Impossible m s table.now placement.now result.reason }
     ensures reads { result.reason ≡ 0
         → ReadsDirect m s table.now placement.now (take result.length output.new) }
-    ensures rest { result.reason ≡ 0 → drop result.length output.new ≡ drop result.length output.old }
+    ensures rest { result.reason ≡ 0
+        → drop result.length output.new ≡ drop result.length output.old }
     ensures refused { result.reason ≢ 0 → output.new ≡ output.old }
 {
     Produced::from(producer::produce(m, s, table, placement, output))
@@ -113,8 +117,10 @@ pub fn jestrunas_join(first: &[u8], second: &[u8], output: &mut [u8]) -> Produce
     ensures output_after { output.new ≡ joined_after first.now second.now output.old }
     ensures succeeds { (result.reason ≡ 0) ↔ Joins first.now second.now (length output.old) }
     ensures explained { JoiningExplained first.now second.now (length output.old) result.reason }
-    ensures reads { result.reason ≡ 0 → ReadsJoined first.now second.now (take result.length output.new) }
-    ensures rest { result.reason ≡ 0 → drop result.length output.new ≡ drop result.length output.old }
+    ensures reads { result.reason ≡ 0
+        → ReadsJoined first.now second.now (take result.length output.new) }
+    ensures rest { result.reason ≡ 0
+        → drop result.length output.new ≡ drop result.length output.old }
     ensures refused { result.reason ≢ 0 → output.new ≡ output.old }
 {
     Produced::from(joiner::join(first, second, output))
