@@ -3,7 +3,7 @@
 use mathlib.Core.Path.{◌≡◌, refl, sym, ap, ap₂, ◌∙◌}
 use mathlib.Core.List.{List, [], ◌∷◌}
 use mathlib.Core.Bool.{Bool, true, false, ◌||◌, or_assoc}
-use lib.ListN.{get_or}
+use lib.ListN.{length, get_or}
 use Prim.Native.Nat.{ℕ, ◌+◌, ◌*◌, ◌^◌, ◌<◌, ◌≤◌, ◌-◌, ◌%◌}
 use native.Mathlib.Omega.{arith}
 use lib.Pow.{pow_pos, pow_mono, shl_exact}
@@ -53,6 +53,10 @@ module _ (m s k : ℕ) (limits : broken m s k ≡ false) where
       pub place_fits : m * j + b < 2 ^ 64
       place_fits = omega (arith, place_lt m s j b hj c, (bounds m s k limits).bits)
 
+-- list b of component j is there
+pub list_there : (m s : ℕ) (held : List (List ℕ)) → length held ≡ m * s → (j b : ℕ) → j < s → b < m → m * j + b < length held
+list_there m s held many j b hj hb = omega (arith, many, place_lt m s j b hj hb)
+
 -- ---- `offending`: component j depends on every share exactly where its terms name a variable of every share
 
 -- the set has the variables that the first b lists of component j name, and none of some share
@@ -83,10 +87,12 @@ module _ (m s : ℕ) (ls : List (List ℕ)) (j : ℕ) where
   }
 
   module _ (b set : ℕ) where
-    -- no term of list b yet
-    pub terms_start : OfLists m s ls j b set → (list : List ℕ) → list ≡ get_or ls (m * j + b) [] → (ts : List ℕ) → ts ≡ list → OfTerms m s ls j b set ts
-    terms_start so list q ts e = record {
-      gathers = λ group. ap₂ ◌||◌ (so.gathers group) (ap (names group) (e ∙ q)) ∙ sym (any_step b (λ i. names group (get_or ls (m * j + i) [])));
+    -- no term of list b yet, of the lists as they are held
+    pub terms_start : OfLists m s ls j b set → (held : List (List ℕ)) → held ≡ ls → (list : List ℕ) → list ≡ get_or held (m * j + b) [] → (ts : List ℕ) → ts ≡ list
+        → OfTerms m s ls j b set ts
+    terms_start so held h list q ts e = record {
+      gathers = λ group. ap₂ ◌||◌ (so.gathers group) (ap (names group) (e ∙ q ∙ ap (λ (x : List (List ℕ)). get_or x (m * j + b) []) h))
+          ∙ sym (any_step b (λ i. names group (get_or ls (m * j + i) [])));
       lacks = so.lacks;
     }
 

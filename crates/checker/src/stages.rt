@@ -80,11 +80,12 @@ pub fn offending(design: &DesignFile<'_>, t: usize) -> Option<usize>
     ensures { result ≡ offending (design_of design.now) t }
 {
     let head = design.head;
+    let lists = design.lists(t);
     let mut found = None;
     'components: for j in 0..head.s {
         let mut named: u32 = 0;
         for b in 0..head.m {
-            for term in design.list(t, head.m * j + b).iter() {
+            for term in lists.list(head.m * j + b).iter() {
                 named |= term;
                 if names_every(named, head) {
                     found = Some(j);

@@ -1,7 +1,7 @@
 -- The ways out of the functions that take a part of a file over plain values: from is where the part starts, n how many bytes it has. A premise is what a
 -- contract asks, or what a call's contract says of its result.
 -- Assumes nothing.
-use Prim.Native.Nat.{ℕ, ◌+◌, ◌*◌, ◌-◌, ◌^◌, ◌≤◌, ◌<◌}
+use Prim.Native.Nat.{ℕ, ◌+◌, ◌-◌, ◌^◌, ◌≤◌, ◌<◌}
 use mathlib.Core.Path.{◌≡◌, sym, ap, ◌∙◌}
 use mathlib.Core.List.{List, ◌++◌, map, append_assoc}
 use native.Mathlib.Omega.{arith}
@@ -11,19 +11,16 @@ use lib.Pow.{pow_mono}
 use lib.Seq.{take_at, drop_at, length-take-le}
 use mir.Syntax.{w64}
 use mir.Val.{Fits}
-use Rattle.records.specs.Bytes.{Bytes, u16_at, term_bytes}
+use Rattle.records.specs.Bytes.{Bytes}
 use Rattle.std.specs.List.{concat}
 use Rattle.records.specs.Records.{a_record, end_record}
 use Rattle.records.proofs.ListRecords.{two_records_length}
-use Rattle.records.specs.Design.{Design, stage_of, list_of}
+use Rattle.records.specs.Design.{Design, stage_of}
 use Rattle.records.specs.Encode.{head_body, stage_bytes, encode}
 use Rattle.design.specs.Layout.{Describes}
 use Rattle.design.specs.Reading.{number_of, meaning}
 use Rattle.design.specs.Layout.{Layout}
-use Rattle.records.specs.Inside.Terms.{terms}
-use Rattle.records.proofs.TermBytes.{terms_of_bytes}
 use Rattle.design.proofs.FileRecords.{Part, limited, box_part, table_part}
-use Rattle.design.proofs.Meaning.{list_part}
 use Rattle.design.proofs.Layouts.{described}
 use Rattle.design.proofs.FileLength.{parts_length}
 use Rattle.design.proofs.Theorems.{read_encodes}
@@ -37,9 +34,6 @@ pub slice_length : (f : List ℕ) (from n p : ℕ) → n ≡ p → from + n ≤ 
 slice_length f from n p e h = length-take-le _ (drop from f) (rw length-drop (omega arith)) ∙ add-sub_cancel_left from n ∙ e
 
 module _ (f : List ℕ) (l : Layout) (d : Describes f l) where
-  pub list_fits : (x : ℕ) → x < l.head.m * l.head.s → Fits w64 (x + 1)
-  list_fits x h = record { fits = omega (arith, (limited f l d).bits) }
-
   -- the box
   module _ (from : ℕ) (e : from ≡ get_or l.starts 1 0) where
     box : Part f from (2 ^ l.head.m) (meaning f).box
@@ -69,29 +63,6 @@ module _ (f : List ℕ) (l : Layout) (d : Describes f l) where
 
       pub table_is : take (from + n - from) (drop from f) ≡ (stage_of (meaning f) t).table
       table_is = slice_is f _ from n _ table en
-
-  -- list j of stage t, record i
-  module _ (t j : ℕ) (a : t < l.head.k) (b : j < l.head.m * l.head.s) (i : ℕ) (ei : i ≡ number_of l.head t (j + 1)) (from : ℕ)
-      (e : from ≡ get_or l.starts i 0) (bytes : Bytes f) where
-    list : (4 ≤ from) × Part f from (u16_at f (from - 4)) (term_bytes (list_of (meaning f) t j))
-    list = list_part f bytes l d t j i from a b ei e
-
-    -- four bytes stand before it, and two at a place among them are there
-    pub head_before : (x : ℕ) → x ≤ 4 → x ≤ from
-    head_before x h = omega (arith, list.0)
-
-    pub length_there : (x : ℕ) → x ≤ 4 → 2 ≤ x → from - x + 2 ≤ length f
-    length_there x h k = omega (arith, list.0, list.1.fits)
-
-    module _ (n : ℕ) (en : n ≡ u16_at f (from - 4)) where
-      pub list_there : from + n ≤ length f
-      list_there = omega (arith, list.1.fits)
-
-      pub list_end_fits : length f < 2 ^ 64 → Fits w64 (from + n)
-      list_end_fits k = record { fits = omega (arith, list_there) }
-
-      pub list_is : (r : List ℕ) → r ≡ terms (take (from + n - from) (drop from f)) → r ≡ list_of (meaning f) t j
-      list_is r q = q ∙ ap terms (slice_is f _ from n _ list.1 en) ∙ terms_of_bytes (list_of (meaning f) t j)
 
 -- ---- the stages: what stands in the file of a design between the records of the head and the box and that of the end
 

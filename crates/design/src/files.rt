@@ -3,15 +3,14 @@ ghost use Rattle.std.specs.Prelude.{◌≡◌, map, ◌*◌, ◌^◌, ◌<◌, l
 ghost use Rattle.records.specs.Bytes.{Bytes};
 ghost use Rattle.std.specs.List.{concat};
 ghost use Rattle.design.specs.WellFormed.{WellFormed};
-ghost use Rattle.records.specs.Design.{stage_of, list_of};
+ghost use Rattle.records.specs.Design.{stage_of};
 ghost use Rattle.records.specs.Encode.{stage_bytes};
 ghost use Rattle.design.specs.Reading.{means, reading};
 ghost use Rattle.design.specs.Layout.{Describes};
 ghost use Rattle.design.specs.Heads.{numbers, laid, design_by};
 
-use super::reader::body_size;
 use super::{GREATEST_RECORDS, Head, Lists};
-use records::{RECORD_HEAD_SIZE, Terms, record_size};
+use records::record_size;
 
 /// A file that reads as a design: its head, and where the body of each record starts, in fixed memory. A stage is named by its number, below k: a struct of
 /// the file and that number would be no plainer, as each loop over stages would have to make one.
@@ -30,7 +29,6 @@ pub struct DesignFile<'a> {
 }
 
 impl<'a> DesignFile<'a> {
-    ghost use Rattle.records.specs.Inside.Terms.{terms_of};
     ghost use Rattle.design.specs.Inside.Lists.{lists_held};
     ghost use Rattle.design.specs.Inside.Held.{design_of};
 
@@ -51,17 +49,6 @@ impl<'a> DesignFile<'a> {
     {
         let from = self.starts[self.head.number(t, 0)];
         &self.file[from..from + self.head.points()]
-    }
-
-    /// List `l` of stage `t`.
-    pub fn list(&self, t: usize, l: usize) -> Terms<'a>
-        requires stage { t < self.now.head.k }
-        requires list { l < self.now.head.m * self.now.head.s }
-        ensures { terms_of result ≡ list_of (design_of self.now) t l }
-    {
-        let from = self.starts[self.head.number(t, l + 1)];
-        let n = body_size(self.file, from - RECORD_HEAD_SIZE);
-        Terms::new(&self.file[from..from + n])
     }
 
     /// The lists of stage `t`.

@@ -28,7 +28,7 @@ fn length_fits(kind: Kind, size: usize, n: usize) -> bool
 }
 
 // How many bytes the body of the record at `at` has.
-pub fn body_size(file: &[u8], at: usize) -> usize
+fn body_size(file: &[u8], at: usize) -> usize
     requires { at + 2 ≤ length file.now }
     ensures value { result ≡ u16_at file.now at }
     ensures two_bytes { result < 65536 }

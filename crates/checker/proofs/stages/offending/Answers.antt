@@ -1,7 +1,6 @@
 use Rattle.std.proofs.Common.{◌≡◌, refl, rules}
 use Rattle.records.specs.Inside.Terms.{terms_of, left}
-use Rattle.sharing.proofs.Sharing.{place_lt}
-use Rattle.checker.proofs.EveryShare.{no_component_yet, lists_start, terms_start, terms_more, lists_more, no_component_more, offending_found, offending_none}
+use Rattle.checker.proofs.EveryShare.{list_there, no_component_yet, lists_start, terms_start, terms_more, lists_more, no_component_more, offending_found, offending_none}
 use Rattle.checker.proofs.EveryShare.{place_fits_64, place_fits}
 use Rattle.checker.proofs.stages.offending.Goals as goal
 
@@ -18,7 +17,7 @@ pub overflow_add-head : goal.overflow_add-head
 overflow_add-head c = search place_fits
 
 pub list-requires : goal.list-requires
-list-requires c = search place_lt
+list-requires c = search list_there
 
 pub loop-term-init : goal.loop-term-init
 loop-term-init c =
