@@ -30,8 +30,7 @@ fn length_fits(kind: Kind, size: usize, n: usize) -> bool
 // How many bytes the body of the record at `at` has.
 fn body_size(file: &[u8], at: usize) -> usize
     requires { at + 2 ≤ length file.now }
-    ensures value { result ≡ u16_at file.now at }
-    ensures two_bytes { result < 65536 }
+    ensures { result ≡ u16_at file.now at }
 {
     usize::from(u16_at(file, at))
 }
