@@ -8,15 +8,15 @@ use lib.ListN.{length, get_or, take, drop, length-drop}
 use lib.Seq.{ext_get_or, get_or-take, get_or-drop, length-take-le}
 use borrow.Rule.Slice.PartMut.{mid_of}
 use Rattle.finite.proofs.Testing.{tabulate_congr}
-use Rattle.records.specs.Bytes.{Bytes}
+use Rattle.records.specs.Bytes.{Bytes, term_bytes}
 use Rattle.records.specs.Inside.Terms.{terms}
 use Rattle.design.specs.Limits.{greatest_records, greatest_share_bits}
-use Rattle.records.specs.Design.{stage_of}
+use Rattle.records.specs.Design.{stage_of, list_of}
 use Rattle.design.specs.Reading.{number_of, meaning}
 use Rattle.design.specs.Heads.{numbers, laid}
 use Rattle.design.specs.declared.heads.Head as heads
 use Rattle.design.specs.Layout.{Describes}
-use Rattle.design.specs.Inside.StageLists.{body_at, LiesWithin, AllWithin, lists_of, run_length, Stands, lists_in}
+use Rattle.design.specs.Inside.StageLists.{body_at, body_in, LiesWithin, AllWithin, lists_of, run_length, Stands, lists_in}
 use Rattle.design.proofs.Layouts.{described}
 use Rattle.design.proofs.StageLists.{lists_length, lists_of_length, lists_of_at, Stand, stand}
 
@@ -49,10 +49,16 @@ module _ (f starts run : List ℕ) (first n : ℕ) (room : first + n < length st
   pub run_stands : n ≤ greatest_share_bits → AllWithin f starts first n → Stands f run
   run_stands few a = record { some = omega (arith, run_size); few = omega (arith, run_length_lem); inside = run_inside a }
 
+  -- list i has the bytes of the one at its place
+  body_from : (i : ℕ) → i < n → body_in f run (0 + i) ≡ body_in f starts (first + i)
+  body_from i h = let w = starts_are i h in ap₂ (body_at f) w.0 w.1
+
+  pub run_body : (i : ℕ) → i < n → body_in f run i ≡ body_in f starts (first + i)
+  run_body i h = let z : 0 + i ≡ i = omega arith in rw z at (body_from i h)
+
   pub run_lists : lists_in f run ≡ lists_of f starts first n
   unfolding lists_of
-  run_lists = rw run_length_lem
-      (tabulate_congr n _ _ (λ i h. let w = starts_are i h in ap₂ (λ (x y : ℕ). terms (body_at f x y)) w.0 w.1))
+  run_lists = rw run_length_lem (tabulate_congr n _ _ (λ i h. ap terms (body_from i h)))
 
 -- ---- `Lists`: a run that stands in the file
 
@@ -89,10 +95,10 @@ module _ (f starts : List ℕ) (s : Stands f starts) where
     pub body_ordered : get_or starts i 0 ≤ get_or starts (i + 1) 0 - 4
     body_ordered = omega (arith, here)
 
-    pub list_held : (r : List ℕ) → r ≡ terms (body_at f (get_or starts i 0) (get_or starts (i + 1) 0)) → r ≡ get_or (lists_in f starts) i []
+    pub list_held : (r : List ℕ) → r ≡ terms (body_in f starts i) → r ≡ get_or (lists_in f starts) i []
     list_held r e =
         let z : 0 + i ≡ i = omega arith in
-        e ∙ sym (lists_of_at f starts 0 (run_length starts) i low ∙ ap₂ (λ (x y : ℕ). terms (body_at f (get_or starts x 0) (get_or starts (y + 1) 0))) z z)
+        e ∙ sym (lists_of_at f starts 0 (run_length starts) i low ∙ ap (λ (x : ℕ). terms (body_in f starts x)) z)
 
   -- n of them, from `from` on
   module _ (from n : ℕ) (h : from + n ≤ length (lists_in f starts)) where
@@ -136,6 +142,9 @@ module _ (f starts : List ℕ) (s : Stands f starts) where
         ∙ list_held (from + i) q _ refl
         ∙ sym (get_or-take n (drop from ls) i [] l ∙ get_or-drop from ls i []))
 
+    pub part_bodies : (i : ℕ) → i < n → body_in f (take (from + n + 1 - from) (drop from starts)) i ≡ body_in f starts (from + i)
+    part_bodies = run_body f starts _ from n room part_is
+
 -- ---- the lists of stage t, the first of them numbered first; n is the number of share bits
 
 module _ (f : List ℕ) (bytes : Bytes f) (h : heads.Head) (starts : List ℕ) (d : Describes f (laid h starts)) (t : ℕ) (u : t < h.k) where
@@ -157,6 +166,10 @@ module _ (f : List ℕ) (bytes : Bytes f) (h : heads.Head) (starts : List ℕ) (
 
     pub stage_lists : lists_in f (mid_of first (first + n + 1 - first) starts) ≡ (stage_of (meaning f) t).lists
     stage_lists = run_lists f starts _ first n within run_is ∙ ap (lists_of f starts first) en ∙ whole.all
+
+    pub stage_bodies : (l : ℕ) → l < h.m * h.s → body_in f (mid_of first (first + n + 1 - first) starts) l
+        ≡ term_bytes (list_of (meaning f) t l)
+    stage_bodies l k = run_body f starts _ first n within run_is l (rw en k) ∙ whole.bodies l k
 
     pub stage_lists_many : length (lists_in f (mid_of first (first + n + 1 - first) starts)) ≡ h.m * h.s
     stage_lists_many = ap (λ (x : List (List ℕ)). length x) stage_lists ∙ lists_length f (laid h starts) d t u

@@ -12,7 +12,7 @@ use Rattle.records.specs.Design.{stage_of, list_of}
 use Rattle.design.specs.Reading.{head_of, last_of, number_of, place, meaning}
 use Rattle.design.specs.Layout.{Describes}
 use Rattle.records.specs.Inside.Terms.{terms}
-use Rattle.design.specs.Inside.StageLists.{body_at, LiesWithin, AllWithin, lists_of}
+use Rattle.design.specs.Inside.StageLists.{body_in, LiesWithin, AllWithin, lists_of}
 use Rattle.design.specs.Layout.{Layout}
 use Rattle.design.specs.Limits.{greatest_records, greatest_terms}
 use Rattle.design.proofs.Limits.{records}
@@ -27,7 +27,7 @@ module _ (f starts : List ℕ) (first n : ℕ) where
   unfolding lists_of
   lists_of_length = tabulate_length n _
 
-  pub lists_of_at : (i : ℕ) → i < n → get_or (lists_of f starts first n) i [] ≡ terms (body_at f (get_or starts (first + i) 0) (get_or starts (first + i + 1) 0))
+  pub lists_of_at : (i : ℕ) → i < n → get_or (lists_of f starts first n) i [] ≡ terms (body_in f starts (first + i))
   unfolding lists_of
   lists_of_at i h = tabulate_at n _ i [] h
 
@@ -39,10 +39,10 @@ list_small : (f : List ℕ) (y : Layout) → Describes f y → (t l : ℕ) → t
 list_small f y d t l u h = (((described d).formed.stage t u).list l h).size
 
 module _ (f : List ℕ) (b : Bytes f) (y : Layout) (d : Describes f y) (t : ℕ) (u : t < y.head.k) where
-  -- list l: it lies in the file, and its terms are those that the file means
+  -- list l: it lies in the file, and its bytes are those of the terms that the file means
   one : (l N : ℕ) → l < y.head.m * y.head.s → N ≡ number_of y.head t (l + 1)
       → LiesWithin f (get_or y.starts N 0) (get_or y.starts (N + 1) 0)
-      × (terms (body_at f (get_or y.starts N 0) (get_or y.starts (N + 1) 0)) ≡ list_of (meaning f) t l)
+      × (body_in f y.starts N ≡ term_bytes (list_of (meaning f) t l))
   one l N h e =
       let low : N + 1 < last_of (head_of f) + 1 = (let q = number_low y.head t (l + 1) u (omega arith) in let z = ap last_of d.head in omega arith) in
       let s = d.starts N (omega arith) in
@@ -58,7 +58,7 @@ module _ (f : List ℕ) (b : Bytes f) (y : Layout) (d : Describes f y) (t : ℕ)
       sym (length-take-le (u16_at f (place f N)) (drop (get_or y.starts N 0) f) room) ∙ ap length is ∙ length_term_bytes (list_of (meaning f) t l) in
       let small = list_small f y d t l u h in (
         (omega arith, omega arith, omega arith),
-        ap terms (ap (λ (k : ℕ). take k (drop (get_or y.starts N 0) f)) n ∙ is) ∙ terms_of_bytes (list_of (meaning f) t l),
+        ap (λ (k : ℕ). take k (drop (get_or y.starts N 0) f)) n ∙ is,
       )
 
   number_from : (from i : ℕ) → number_of y.head t (from + 1) + i ≡ number_of y.head t (from + i + 1)
@@ -67,8 +67,15 @@ module _ (f : List ℕ) (b : Bytes f) (y : Layout) (d : Describes f y) (t : ℕ)
 
   -- n lists from the one numbered `from` on
   module _ (from n first : ℕ) (h : from + n ≤ y.head.m * y.head.s) (e : first ≡ number_of y.head t (from + 1)) where
+    here : (i : ℕ) → i < n → LiesWithin f (get_or y.starts (first + i) 0) (get_or y.starts (first + i + 1) 0)
+        × (body_in f y.starts (first + i) ≡ term_bytes (list_of (meaning f) t (from + i)))
+    here i k = one (from + i) (first + i) (omega arith) (ap (λ (q : ℕ). q + i) e ∙ number_from from i)
+
     pub lists_inside : AllWithin f y.starts first n
-    lists_inside i k = (one (from + i) (first + i) (omega arith) (ap (λ (q : ℕ). q + i) e ∙ number_from from i)).0
+    lists_inside i k = (here i k).0
+
+    pub bodies_are : (i : ℕ) → i < n → body_in f y.starts (first + i) ≡ term_bytes (list_of (meaning f) t (from + i))
+    bodies_are i k = (here i k).1
 
     -- their starts and the next are among those that a layout has room for
     pub lists_known : first + n < greatest_records
@@ -88,7 +95,7 @@ module _ (f : List ℕ) (b : Bytes f) (y : Layout) (d : Describes f y) (t : ℕ)
         (λ i k.
         let l : i < n = omega arith in
         lists_of_at f y.starts first n i l
-        ∙ (one (from + i) (first + i) (omega arith) (ap (λ (q : ℕ). q + i) e ∙ number_from from i)).1
+        ∙ ap terms (bodies_are i l) ∙ terms_of_bytes (list_of (meaning f) t (from + i))
         ∙ sym (get_or-take n (drop from ls) i [] l ∙ get_or-drop from ls i []))
 
 -- the lists of stage t, the first of them numbered first
@@ -96,6 +103,7 @@ pub record Stand (f : List ℕ) (y : Layout) (t first : ℕ) : Type 0 where
   pub inside : AllWithin f y.starts first (y.head.m * y.head.s)
   pub known : first + y.head.m * y.head.s < greatest_records
   pub all : lists_of f y.starts first (y.head.m * y.head.s) ≡ (stage_of (meaning f) t).lists
+  pub bodies : (l : ℕ) → l < y.head.m * y.head.s → body_in f y.starts (first + l) ≡ term_bytes (list_of (meaning f) t l)
 
 pub stand : (f : List ℕ) → Bytes f → (y : Layout) → Describes f y → (t : ℕ) → t < y.head.k → (first : ℕ) → first ≡ number_of y.head t 1 → Stand f y t first
 stand f b y d t u first e =
@@ -105,4 +113,5 @@ stand f b y d t u first e =
       inside = lists_inside f b y d t u 0 n first (omega arith) e;
       known = lists_known f b y d t u 0 n first (omega arith) e;
       all = lists_are f b y d t u 0 n first (omega arith) e ∙ take_all n (stage_of (meaning f) t).lists (omega arith);
+      bodies = λ l h. let z : 0 + l ≡ l = omega arith in rw z at (bodies_are f b y d t u 0 n first (omega arith) e l h);
     }

@@ -1,9 +1,9 @@
 // A design file that reads: its tables and lists, as parts of it. Stages and lists are counted from 0.
-ghost use Rattle.std.specs.Prelude.{◌≡◌, map, ◌*◌, ◌^◌, ◌<◌, length};
-ghost use Rattle.records.specs.Bytes.{Bytes};
+ghost use Rattle.std.specs.Prelude.{ℕ, ◌≡◌, map, ◌*◌, ◌^◌, ◌<◌, length};
+ghost use Rattle.records.specs.Bytes.{Bytes, term_bytes};
 ghost use Rattle.std.specs.List.{concat};
 ghost use Rattle.design.specs.WellFormed.{WellFormed};
-ghost use Rattle.records.specs.Design.{stage_of};
+ghost use Rattle.records.specs.Design.{stage_of, list_of};
 ghost use Rattle.records.specs.Encode.{stage_bytes};
 ghost use Rattle.design.specs.Reading.{means, reading};
 ghost use Rattle.design.specs.Layout.{Describes};
@@ -29,7 +29,7 @@ pub struct DesignFile<'a> {
 }
 
 impl<'a> DesignFile<'a> {
-    ghost use Rattle.design.specs.Inside.Lists.{lists_held};
+    ghost use Rattle.design.specs.Inside.Lists.{lists_held, body_held};
     ghost use Rattle.design.specs.Inside.Held.{design_of};
 
     /// The box S.
@@ -56,6 +56,8 @@ impl<'a> DesignFile<'a> {
         requires { t < self.now.head.k }
         ensures value { lists_held result ≡ (stage_of (design_of self.now) t).lists }
         ensures share_bits { length (lists_held result) ≡ self.now.head.m * self.now.head.s }
+        ensures bytes { (l : ℕ) → l < self.now.head.m * self.now.head.s
+            → body_held result l ≡ term_bytes (list_of (design_of self.now) t l) }
     {
         let first = self.head.number(t, 1);
         Lists {

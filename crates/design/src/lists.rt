@@ -1,5 +1,5 @@
 // Lists of a stage that stand one behind the other in a file.
-ghost use Rattle.std.specs.Prelude.{◌≡◌, ◌+◌, ◌≤◌, ◌<◌, [], length, get_or, take, drop};
+ghost use Rattle.std.specs.Prelude.{ℕ, ◌≡◌, ◌+◌, ◌≤◌, ◌<◌, [], length, get_or, take, drop};
 ghost use Rattle.design.specs.Limits.{greatest_share_bits};
 ghost use Rattle.design.specs.Inside.StageLists.{Stands};
 
@@ -16,8 +16,8 @@ pub struct Lists<'a> {
 }
 
 impl<'a> Lists<'a> {
-    ghost use Rattle.records.specs.Inside.Terms.{terms_of};
-    ghost use Rattle.design.specs.Inside.Lists.{lists_held};
+    ghost use Rattle.records.specs.Inside.Terms.{bytes_of, terms_of};
+    ghost use Rattle.design.specs.Inside.Lists.{lists_held, body_held};
 
     /// How many they are.
     pub fn len(&self) -> usize
@@ -30,15 +30,18 @@ impl<'a> Lists<'a> {
     /// List `i`.
     pub fn list(&self, i: usize) -> Terms<'a>
         requires { i < length (lists_held self.now) }
-        ensures { terms_of result ≡ get_or (lists_held self.now) i [] }
+        ensures bytes { bytes_of result ≡ body_held self.now i }
+        ensures value { terms_of result ≡ get_or (lists_held self.now) i [] }
     {
-        Terms::new(&self.file[self.starts[i]..self.starts[i + 1] - RECORD_HEAD_SIZE])
+        let body = &self.file[self.starts[i]..self.starts[i + 1] - RECORD_HEAD_SIZE];
+        Terms::new(body)
     }
 
     /// The `n` lists from `from` on.
     pub fn part(&self, from: usize, n: usize) -> Lists<'a>
         requires { from + n ≤ length (lists_held self.now) }
-        ensures { lists_held result ≡ take n (drop from (lists_held self.now)) }
+        ensures value { lists_held result ≡ take n (drop from (lists_held self.now)) }
+        ensures bytes { (i : ℕ) → i < n → body_held result i ≡ body_held self.now (from + i) }
     {
         Lists {
             file: self.file,

@@ -1,6 +1,6 @@
 // Lists of terms as they stand in a file, four bytes each.
 ghost use Rattle.std.specs.Prelude.{◌≡◌};
-ghost use Rattle.records.specs.Inside.Terms.{terms, terms_of, left};
+ghost use Rattle.records.specs.Inside.Terms.{terms, bytes_of, terms_of, left};
 
 use super::TERM_SIZE;
 
@@ -13,7 +13,8 @@ pub struct Terms<'a> {
 impl<'a> Terms<'a> {
     /// The list that these bytes are.
     pub fn new(bytes: &'a [u8]) -> Terms<'a>
-        ensures { terms_of result ≡ terms bytes.now }
+        ensures value { terms_of result ≡ terms bytes.now }
+        ensures bytes { bytes_of result ≡ bytes.now }
     {
         Terms { bytes }
     }

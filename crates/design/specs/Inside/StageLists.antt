@@ -16,9 +16,13 @@ LiesWithin f start next = (start + 4 ≤ next) × (next ≤ length f + 4) × (ne
 abbrev pub AllWithin : List ℕ → List ℕ → ℕ → ℕ → Type 0
 AllWithin f starts first n = (i : ℕ) → i < n → LiesWithin f (get_or starts (first + i) 0) (get_or starts (first + i + 1) 0)
 
--- the lists of terms of those bodies
+-- body i of those whose starts are these
+abbrev pub body_in : List ℕ → List ℕ → ℕ → List ℕ
+body_in f starts i = body_at f (get_or starts i 0) (get_or starts (i + 1) 0)
+
+-- the lists of terms of those n bodies
 unfoldable pub lists_of : List ℕ → List ℕ → ℕ → ℕ → List (List ℕ)
-lists_of f starts first n = tabulate n (λ i. terms (body_at f (get_or starts (first + i) 0) (get_or starts (first + i + 1) 0)))
+lists_of f starts first n = tabulate n (λ i. terms (body_in f starts (first + i)))
 
 -- n bodies of a run of records: where each starts, and where that of the record behind them does
 abbrev pub run_length : List ℕ → ℕ

@@ -12,7 +12,11 @@ terms (a ∷ b ∷ []) = []
 terms (a ∷ b ∷ c ∷ []) = []
 terms (a ∷ b ∷ c ∷ d ∷ l) = little a b c d ∷ terms l
 
--- the terms of a list as it stands in a file
+-- the bytes of a list as it stands in a file
+abbrev pub bytes_of : Terms → List ℕ
+bytes_of a = a.bytes.now
+
+-- its terms
 abbrev pub terms_of : Terms → List ℕ
 terms_of a = terms a.bytes.now
 

@@ -1,6 +1,6 @@
 -- `design::DesignFile::lists` meets its contract: the lists of a stage are a run.
 use Rattle.design.proofs.Heading.{bits_some}
-use Rattle.design.proofs.Runs.{stage_within, stage_stands, stage_lists, stage_lists_many}
+use Rattle.design.proofs.Runs.{stage_within, stage_stands, stage_lists, stage_lists_many, stage_bodies}
 use Rattle.design.proofs.files.DesignFile.lists.Goals as goal
 
 pub number-first-requires : goal.number-first-requires
@@ -13,4 +13,4 @@ pub invariant_of-result : goal.invariant_of-result
 invariant_of-result c = record { stands = search stage_stands }
 
 pub returns : goal.returns
-returns c = search (stage_lists, stage_lists_many)
+returns c = search (stage_lists, stage_lists_many, stage_bodies)

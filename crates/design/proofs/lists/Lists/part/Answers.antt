@@ -1,5 +1,5 @@
 -- `design::Lists::part` meets its contract: a part of a run is a run.
-use Rattle.design.proofs.Runs.{end_fits, behind_fits, from_fits, part_within, part_stands, part_lists}
+use Rattle.design.proofs.Runs.{end_fits, behind_fits, from_fits, part_within, part_stands, part_lists, part_bodies}
 use Rattle.design.proofs.lists.Lists.part.Goals as goal
 
 pub overflow_add-result : goal.overflow_add-result
@@ -18,4 +18,4 @@ pub invariant_of-result : goal.invariant_of-result
 invariant_of-result c = record { stands = search part_stands }
 
 pub returns : goal.returns
-returns c = search part_lists
+returns c = search (part_lists, part_bodies)
