@@ -11,7 +11,7 @@ ghost use Rattle.anf.specs.Terms.{before};
 ghost use Rattle.anf.specs.Inside.Words.{words_degree};
 ghost use Rattle.anf.specs.Transform.{greatest_width, transform_reason, transform_after, transformed};
 
-use finite::power;
+use finite::{copy, power};
 use reasons::Reason;
 use std::cmp::max;
 use words::sum_subsets;
@@ -66,7 +66,7 @@ fn write_sums(m: usize, input: &[u8], output: &mut [u8])
     ensures { output.new ≡ transformed m input.now ++ drop (2 ^ m) output.old }
 {
     let front = &mut output[..input.len()];
-    front.copy_from_slice(input);
+    copy(input, front);
     sum_subsets(m, front);
 }
 

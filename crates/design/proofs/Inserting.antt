@@ -1,26 +1,23 @@
--- A term put into its place in a list: `insert` of TermList, which puts it behind the last and then rotates it; and what the new list is.
+-- A term put into its place in a list: `insert` of TermList, which moves those behind it one place further; and what the new list is.
 use mathlib.Core.Path.{◌≡◌, refl, sym, ap, ap₂, ◌∙◌}
 use mathlib.Core.Logic.{◌⊎◌, inl, inr, ⊎_elim}
 use mathlib.Core.Bool.{Bool, true, false, cond, not, ◌&&◌, ◌||◌, or_comm, or_assoc, and-or_distrib_left}
-use mathlib.Core.List.{List, [], ◌∷◌, ◌++◌}
+use mathlib.Core.List.{List, [], ◌∷◌, ◌++◌, append_assoc}
 use Prim.Native.Nat.{ℕ, suc, ◌+◌, ◌-◌, ◌≤◌, ◌<◌}
 use native.Mathlib.Nat.{zero-add}
-use native.Mathlib.Numerals.{one-add}
+use native.Mathlib.Numerals.{one-add, add-one}
 use native.Mathlib.Omega.{arith}
 use native.Mathlib.Decide.{dec_lt}
 use lib.Dec.{eqb, ltb}
-use lib.ListN.{length, set, take, drop, length-drop, length-set}
-use lib.Seq.{take-take}
+use lib.ListN.{length, get_or, set, take, drop, length-set, length-take}
+use lib.Seq.{take-take, take-suc-set, drop-cons, drop-set-lt, take-set-lt, get_or-take, drop-length}
 use borrow.Author.Tests.{eqb-true, eq-eqb, lt-ltb, le-ltb}
 use Rattle.std.proofs.lemmas.Bool.{cases_Bool, false_from_ne_true, and_from, and_right, or_left, or_right}
 use Rattle.std.proofs.Common.{Option, Some, None}
-use Rattle.std.proofs.lemmas.Grind.{common_steps}
-use Rattle.std.proofs.lemmas.List.{length-take-le, take-set-le, take_more_set, drop-append-le}
+use Rattle.std.proofs.lemmas.List.{length-take-le}
 use Rattle.std.proofs.lemmas.List.Sums.{prefix_len-le-length}
-use Rattle.std.proofs.lemmas.Slice.{between_is, take-put_mid}
 use Rattle.std.specs.List.{position, position_or_len}
 use Rattle.std.specs.Option.{unwrap_or}
-use borrow.Rule.Slice.PartMut.{mid_of, put_mid}
 use Rattle.finite.proofs.Testing.{clash, or_false_right}
 use Rattle.anf.specs.Terms.{before, passing}
 use Rattle.anf.proofs.Order.{before_total, First, Rising, first_trans, member}
@@ -38,29 +35,75 @@ place_is p l n e = at (dec_lt (position_or_len p l) (length l))
         ap (λ (b : Bool). unwrap_or (cond b (Some (position_or_len p l)) None) n) (le-ltb (position_or_len p l) (length l) (omega arith))
         ∙ omega (arith, prefix_len-le-length (λ x. not (p x)) l)
 
--- a list with its last term brought to the front
-abbrev pub last_first : List ℕ → List ℕ
-last_first l = drop (length l - 1) l ++ take (length l - 1) l
+-- i terms of l stand, and t takes the place of the next, which goes on among the others of the first n
+abbrev shifted : ℕ → List ℕ → ℕ → ℕ → List ℕ
+shifted n l i t = take i l ++ t ∷ drop i (take n l)
 
-rotated : (l : List ℕ) (t : ℕ) → last_first (l ++ t ∷ []) ≡ t ∷ l
-rotated l t = grind (arith, common_steps)
-
-pub term_inserted : (t n k N : ℕ) (xs ys l : List ℕ) (o : Option ℕ) → length xs ≡ N → n ≤ N → take n xs ≡ l → length l < N
-    → o ≡ position (before t) (take n xs) → k ≡ unwrap_or o n
-    → ys ≡ last_first (mid_of k (n + 1 - k) (set xs n t))
-    → take (n + 1) (put_mid k (n + 1 - k) (set xs n t) ys) ≡ inserted t l
-term_inserted t n k N xs ys l o room most e few q w r =
-    let size : length (take n xs) ≡ n = length-take-le n xs (omega arith) in
-    let h : n < length xs = omega (arith, ap length e) in
+shifted_start : (t n k : ℕ) (xs l : List ℕ) (o : Option ℕ) → n ≤ length xs → take n xs ≡ l → o ≡ position (before t) (take n xs) → k ≡ unwrap_or o n
+    → (k ≤ n) × (shifted n xs k t ≡ inserted t l)
+shifted_start t n k xs l o most e q w =
+    let size : length (take n xs) ≡ n = length-take-le n xs most in
     let ke : k ≡ position_or_len (before t) (take n xs) = w ∙ ap (λ (x : Option ℕ). unwrap_or x n) q ∙ place_is (before t) (take n xs) n size in
-    let kn : k ≤ n = omega (arith, prefix_len-le-length (λ x. not (before t x)) (take n xs)) in
-    let mid : mid_of k (n + 1 - k) (set xs n t) ≡ drop k (take n xs) ++ t ∷ [] =
-    between_is (set xs n t) k (n + 1) ∙ ap (drop k) (take_more_set xs n t h) ∙ drop-append-le k (take n xs) (t ∷ []) (omega arith) in
-    let put : ys ≡ t ∷ drop k (take n xs) = r ∙ ap last_first mid ∙ rotated (drop k (take n xs)) t in
-    take-put_mid k (n + 1 - k) (set xs n t) ys (n + 1) (omega (arith, ap length put, length-drop k (take n xs))) (omega (arith, length-set xs n t))
-    ∙ ap₂ (λ (a z : List ℕ). a ++ z) (take-set-le k xs n t kn ∙ sym (take-take k n xs kn)) put
-    ∙ ap (λ (i : ℕ). take i (take n xs) ++ t ∷ drop i (take n xs)) ke
-    ∙ ap (inserted t) e
+    let kn : k ≤ n = omega (arith, prefix_len-le-length (λ x. not (before t x)) (take n xs)) in (
+      kn,
+      ap (λ (a : List ℕ). a ++ t ∷ drop k (take n xs)) (sym (take-take k n xs kn))
+          ∙ ap (λ (i : ℕ). take i (take n xs) ++ t ∷ drop i (take n xs)) ke
+          ∙ ap (inserted t) e,
+    )
+
+shifted_on : (n : ℕ) (l : List ℕ) (i t : ℕ) → i < n → n ≤ length l → shifted n (set l i t) (i + 1) (get_or l i 0) ≡ shifted n l i t
+shifted_on n l i t h k =
+    let x = get_or l i 0 in
+    let size : i < length (take n l) = omega (arith, length-take n l) in
+    ap (λ (a : ℕ). take a (set l i t) ++ x ∷ drop a (take n (set l i t))) (add-one i)
+    ∙ ap₂ (λ (a b : List ℕ). a ++ x ∷ b)
+    (take-suc-set l i t (omega arith))
+    (ap (drop (suc i)) (take-set-lt n l i t h) ∙ drop-set-lt (suc i) (take n l) i t (omega arith))
+    ∙ append_assoc (take i l) (t ∷ []) (x ∷ drop (suc i) (take n l))
+    ∙ sym (ap (λ (a : List ℕ). take i l ++ t ∷ a) (drop-cons (take n l) i 0 size ∙ ap (λ (y : ℕ). y ∷ drop (suc i) (take n l)) (get_or-take n l i 0 h)))
+
+shifted_end : (n : ℕ) (l : List ℕ) (t : ℕ) → n < length l → take (n + 1) (set l n t) ≡ shifted n l n t
+shifted_end n l t h =
+    let size : length (take n l) ≡ n = length-take-le n l (omega arith) in
+    ap (λ (a : ℕ). take a (set l n t)) (add-one n) ∙ take-suc-set l n t h
+    ∙ sym (ap (λ (a : List ℕ). take n l ++ t ∷ a) (ap (λ (a : ℕ). drop a (take n l)) (sym size) ∙ drop-length (take n l)))
+
+-- the loop of `insert`, of a list with room for N terms that has n: xs, from place k on with t, is ys now, at place i with u
+pub record Moving (N n len end : ℕ) (xs ys : List ℕ) (k i t u : ℕ) : Type 0 where
+  pub same : len ≡ n
+  pub last : end ≡ n
+  pub room : n < N
+  pub size : length ys ≡ N
+  pub comes : shifted n ys i u ≡ shifted n xs k t
+
+-- a list that has fewer than N terms
+fewer : (n N : ℕ) (xs l : List ℕ) → take n xs ≡ l → n ≤ N → length xs ≡ N → length l < N → n < N
+fewer n N xs l e most size few = omega (arith, length-take-le n xs (omega arith), ap length e, few)
+
+pub moving_start : (N n k t : ℕ) (xs l : List ℕ) → take n xs ≡ l → n ≤ N → length xs ≡ N → length l < N → Moving N n n n xs xs k k t t
+moving_start N n k t xs l e most size few = record { same = refl; last = refl; room = fewer n N xs l e most size few; size = size; comes = refl }
+
+module _ (N n len end : ℕ) (xs ys : List ℕ) (k i t u : ℕ) (m : Moving N n len end xs ys k i t u) where
+  pub moving_on : i < n → Moving N n len end xs (set ys i u) k (i + 1) t (get_or ys i 0)
+  moving_on h =
+      record {
+        same = m.same;
+        last = m.last;
+        room = m.room;
+        size = length-set ys i u ∙ m.size;
+        comes = shifted_on n ys i u h (omega (arith, m.room, m.size)) ∙ m.comes;
+      }
+
+  pub moving_room : len < N
+  moving_room = omega (arith, m.same, m.room)
+
+  pub moving_end : (o : Option ℕ) (l : List ℕ) → n ≤ i → i ≤ n → take n xs ≡ l → n ≤ N → length xs ≡ N → o ≡ position (before t) (take n xs) → k ≡ unwrap_or o n
+      → take (len + 1) (set ys len u) ≡ inserted t l
+  moving_end o l h₀ h₁ e most size q w =
+      let i_n : i ≡ n = omega (arith, h₀, h₁) in
+      rw m.same (shifted_end n ys u (omega (arith, m.room, m.size)))
+      ∙ ap (λ (a : ℕ). shifted n ys a u) (sym i_n) ∙ m.comes
+      ∙ (shifted_start t n k xs l o (omega (arith, most, size)) e q w).1
 
 -- ---- a term in its place
 

@@ -63,15 +63,20 @@ impl<const N: usize> TermList<N> {
         self.len = 0;
     }
 
-    /// Puts the term t into its place.
+    /// Puts the term t into its place. Those behind it go one place further by a loop, and not by std's `rotate_right`: that one has the archive for C ask for
+    /// `memmove`.
     pub fn insert(&mut self, t: u32)
         requires { length self.old < N }
         ensures { self.new ≡ inserted t self.old }
     {
-        let terms = &mut self.terms[..];
-        let at = first_behind(&terms[..self.len], t).unwrap_or(self.len);
-        terms[self.len] = t;
+        let at = first_behind(&self.terms[..self.len], t).unwrap_or(self.len);
+        let mut next = t;
+        for i in at..self.len {
+            let term = self.terms[i];
+            self.terms[i] = next;
+            next = term;
+        }
+        self.terms[self.len] = next;
         self.len += 1;
-        terms[at..self.len].rotate_right(1);
     }
 }

@@ -10,3 +10,4 @@ pub mod Elements
 pub mod Faults
 pub mod Powers
 pub mod Lists
+pub mod Copying

@@ -7,8 +7,10 @@ use Prim.Native.Nat.{ℕ, ◌+◌, ◌-◌, ◌*◌, ◌/◌, ◌%◌, ◌^◌, 
 use native.Mathlib.Omega.{arith}
 use lib.ListN.{length, length-append, length-take, length-drop, get_or, take, drop}
 use lib.Seq.{drop-drop, take_all}
-use borrow.Rule.Slice.PartMut.{put_mid}
+use borrow.Rule.Slice.PartMut.{mid_of, put_mid}
 use mir.Val.{Fits}
+use Rattle.std.proofs.lemmas.List.{length-take-le}
+use Rattle.finite.proofs.Copying.{copied_whole}
 use Rattle.std.specs.Int.{w16, w32, to_le_bytes}
 use Rattle.records.specs.Bytes.{two, four, term_bytes}
 use Rattle.records.specs.Records.{record_head, a_record, list_record, end_record}
@@ -21,11 +23,14 @@ use Rattle.records.proofs.TermBytes.{length_term_bytes}
 use Rattle.records.proofs.Overwriting.{overwrite_nil, overwrite_append}
 use Rattle.records.proofs.ListRecords.{record_length, two_records_length, term_bytes_more, taken_length}
 
--- a part of the output that these bytes take the place of
-pub part_written : (l b part : List ℕ) (at : ℕ) → part ≡ b → put_mid at (at + length b - at) l part ≡ overwrite l at b
+-- a part of the output over whose front these bytes are written, and which is no longer than they
+pub part_written : (l b part : List ℕ) (at : ℕ) → at + length b ≤ length l → part ≡ b ++ drop (length b) (mid_of at (at + length b - at) l)
+    → put_mid at (at + length b - at) l part ≡ overwrite l at b
 unfolding overwrite
-part_written l b part at e =
+part_written l b part at h c =
     let n : at + length b - at ≡ length b = omega arith in
+    let size : length b ≡ length (mid_of at (at + length b - at) l) = rw n (sym (length-take-le (length b) (drop at l) (omega (arith, length-drop at l)))) in
+    let e : part ≡ b = copied_whole b (mid_of at (at + length b - at) l) part size c in
     rw (e, n) (ap (λ (x : List ℕ). take at l ++ (b ++ x)) (drop-drop (length b) at l) ∙ sym (append_assoc (take at l) b (drop (at + length b) l)))
 
 overwrite_length : (l : List ℕ) (at : ℕ) (b : List ℕ) → at + length b ≤ length l → length (overwrite l at b) ≡ length l

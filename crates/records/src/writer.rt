@@ -4,6 +4,7 @@ ghost use Rattle.records.specs.Records.{record_head, a_record, list_record, end_
 ghost use Rattle.records.specs.Encode.{front_bytes};
 
 use super::{Kind, RECORD_HEAD_SIZE, TERM_SIZE};
+use finite::copy;
 
 /// An output that is written from its front on: the next byte goes to the place `at`. Each method asks for room for the bytes that it writes, and that a body's
 /// length and a head's number fit their bytes.
@@ -30,7 +31,7 @@ impl<'a> Writer<'a> {
         ensures { Writes self.old self.new bytes.now }
     {
         let end = self.at + bytes.len();
-        self.out[self.at..end].copy_from_slice(bytes);
+        copy(bytes, &mut self.out[self.at..end]);
         self.at = end;
     }
 
