@@ -1,2 +1,3 @@
--- Laws of the line.
+-- Laws of the line, and of reading.
 mod Line
+mod Reading

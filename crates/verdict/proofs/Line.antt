@@ -1,6 +1,6 @@
 -- What the program answers: 18, or the verdict; and that as much of an input as it reads is enough.
 use mathlib.Core.Path.{◌≡◌, sym, ap, ◌∙◌, subst}
-use mathlib.Core.List.{List, [], ◌++◌}
+use mathlib.Core.List.{List}
 use Prim.Native.Nat.{ℕ, ◌+◌, ◌<◌, ◌≤◌}
 use native.Mathlib.Decide.{dec_lt}
 use native.Mathlib.Omega.{arith}
@@ -10,7 +10,6 @@ use Rattle.std.proofs.lemmas.List.{take_all, length-take-le}
 use borrow.Author.Tests.{lt-ltb, le-ltb}
 use Rattle.std.specs.Prelude.{Result, Ok, Err, OnOk, IfSome, Option, Some, None}
 use Rattle.std.specs.Io.KnownBytes.{Appends}
-use Rattle.std.specs.Option.{option_map}
 use Rattle.finite.proofs.Testing.{pick_true, pick_false}
 use Rattle.reasons.specs.Numbers.{number}
 use Rattle.reasons.specs.declared.Reason.TheVariants.{InputTooLong}
@@ -42,21 +41,21 @@ read_enough l = go (dec_lt most_bytes (length l))
         pick_true (ltb most_bytes (length (take (most_bytes + 1) l))) _ _ (lt-ltb most_bytes _ (omega arith)) ∙ sym (pick_true (ltb most_bytes (length l)) _ _ (lt-ltb most_bytes (length l) h))
     go (no h) = ap answered (take_all (most_bytes + 1) l (omega arith))
 
--- what is read up to a limit, over nothing, by what the reader has
-pub read_to_limit : {R : Type 0} (remaining : R → Option (List ℕ)) (reader taken : R) (limit : ℕ) (bytes none : List ℕ) → none ≡ [] → limit ≡ most_bytes + 1 → taken ≡ reader
-    → IfSome (option_map (take limit) (remaining taken)) (λ xs. bytes ≡ none ++ xs) → IfSome (remaining reader) (λ input. bytes ≡ take (most_bytes + 1) input)
-read_to_limit {R} remaining reader taken limit bytes none e el er read =
-    subst (λ (r : R). IfSome (remaining r) (λ input. bytes ≡ take (most_bytes + 1) input)) er (go (remaining taken) read)
-  where
-    go : (known : Option (List ℕ)) → IfSome (option_map (take limit) known) (λ xs. bytes ≡ none ++ xs) → IfSome known (λ input. bytes ≡ take (most_bytes + 1) input)
-    go (Some input) f = f ∙ ap (λ (l : List ℕ). l ++ take limit input) e ∙ ap (λ (n : ℕ). take n input) el
-    go None f = tt
+-- the verdict on what was read is that on the input, where reading ended well
+pub judged_whole : {E : Type 0} (known : Option (List ℕ)) (r : Result Unit E) (bytes lent : List ℕ) (most : ℕ) (v : Verdict)
+    → OnOk r (IfSome known (λ input. bytes ≡ take most input)) → most ≡ most_bytes + 1 → lent ≡ bytes → v ≡ c_verdict (answered lent)
+    → OnOk r (IfSome known (λ input. v ≡ c_verdict (answered input)))
+judged_whole (Some input) (Ok u) bytes lent most v read e same judged =
+    judged ∙ ap c_verdict (ap answered (same ∙ read ∙ ap (λ (n : ℕ). take n input) e) ∙ read_enough input)
+judged_whole (Some input) (Err x) bytes lent most v read e same judged = tt
+judged_whole None (Ok u) bytes lent most v read e same judged = tt
+judged_whole None (Err x) bytes lent most v read e same judged = tt
 
-pub line_written : {E : Type 0} (known : Option (List ℕ)) (old new : Option (List ℕ)) (r : Result Unit E) (bytes lent : List ℕ) (v : Verdict)
-    → IfSome known (λ input. bytes ≡ take (most_bytes + 1) input) → lent ≡ bytes → v ≡ c_verdict (answered lent) → OnOk r (Appends old new (line_text v))
+-- the line of a verdict that is the input's
+pub line_written : {E : Type 0} (known : Option (List ℕ)) (old new : Option (List ℕ)) (r : Result Unit E) (v : Verdict)
+    → OnOk r (IfSome known (λ input. v ≡ c_verdict (answered input))) → Appends old new (line_text v)
     → OnOk r (IfSome known (λ input. Appends old new (line input)))
-line_written (Some input) old new (Ok u) bytes lent v read same e wrote =
-    subst (λ (x : Verdict). Appends old new (line_text x)) (e ∙ ap c_verdict (ap answered (same ∙ read) ∙ read_enough input)) wrote
-line_written (Some input) old new (Err x) bytes lent v read same e wrote = tt
-line_written None old new (Ok u) bytes lent v read same e wrote = tt
-line_written None old new (Err x) bytes lent v read same e wrote = tt
+line_written (Some input) old new (Ok u) v judged wrote = subst (λ (x : Verdict). Appends old new (line_text x)) judged wrote
+line_written (Some input) old new (Err x) v judged wrote = tt
+line_written None old new (Ok u) v judged wrote = tt
+line_written None old new (Err x) v judged wrote = tt

@@ -1,12 +1,11 @@
 // The verdict program over any reader and writer, whose bytes its contract names: `main` hands it standard input and output.
-ghost use Rattle.std.specs.Prelude.{◌≡◌, ◌+◌, IfOk, OnOk, IfSome, take};
-ghost use Rattle.std.specs.Io.KnownBytes.{Appends};
+ghost use Rattle.std.specs.Prelude.{◌≡◌, ◌≤◌, OnOk, IfSome, List, ℕ, length, take};
+ghost use Rattle.std.specs.Io.KnownBytes.{Appends, Consumes};
 ghost use Rattle.jestrunas.specs.Published.{c_verdict};
-ghost use Rattle.verdict.specs.Program.{most_bytes, answered, line_text, line};
+ghost use Rattle.verdict.specs.Program.{answered, line_text, line};
 
 use jestrunas::{Verdict, jestrunas_judge};
 use reasons::Reason;
-use std::alloc::Global;
 use std::io;
 use std::io::{Read, Write};
 
@@ -31,13 +30,35 @@ fn answered(input: &[u8]) -> Verdict
     jestrunas_judge(input, &mut workspace).verdict
 }
 
-// The bytes of an input up to its end, or as many as tell that it is too long.
-fn read_input<R: Read + Drop>(alloc: Global, reader: R) -> io::Result<Vec<u8>>
-    ensures { IfOk result (λ bytes. IfSome (R.remaining reader) (λ input. bytes.items ≡ take (most_bytes + 1) input)) }
+// Reads an input until it ends, `bytes` is full or a read fails: how many bytes were read, and the error of the read that failed.
+fn read_input<R: Read>(reader: &mut R, bytes: &mut [u8]) -> (usize, io::Result<()>)
+    ensures within { result.0 ≤ length bytes.new }
+    ensures whole { OnOk result.1 (IfSome (R.remaining reader.old) (λ input.
+        take result.0 bytes.new ≡ take (length bytes.old) input)) }
+    ensures read { Consumes (R.remaining reader.old) (R.remaining reader.new) (take result.0 bytes.new) }
 {
-    let mut input = Vec::new(alloc);
-    reader.take(MOST_BYTES as u64 + 1).read_to_end(&mut input)?;
-    Ok(input)
+    let mut n = 0;
+    while n < bytes.len() {
+        match reader.read(&mut bytes[n..]) {
+            Ok(0) => return (n, Ok(())),
+            Ok(count) => n += count,
+            Err(error) => return (n, Err(error)),
+        }
+    }
+    (n, Ok(()))
+}
+
+// The verdict on the bytes of an input that can be read, and the error that cut it short, if one did.
+fn judge_input<R: Read>(reader: &mut R) -> (Verdict, io::Result<()>)
+    ensures whole { OnOk result.1 (IfSome (R.remaining reader.old) (λ input.
+        result.0 ≡ c_verdict (answered input))) }
+    ensures read { (bytes : List ℕ) × Consumes (R.remaining reader.old) (R.remaining reader.new) bytes
+        × (result.0 ≡ c_verdict (answered bytes)) }
+{
+    // one byte more than is judged tells that an input is too long
+    let mut bytes = [0u8; MOST_BYTES + 1];
+    let (n, read) = read_input(reader, &mut bytes);
+    (answered(&bytes[..n]), read)
 }
 
 // Writes the line of an answer.
@@ -47,11 +68,12 @@ fn write_line<W: Write>(v: Verdict, writer: &mut W) -> io::Result<()>
     write!(writer, "{v}\n")
 }
 
-/// Reads an input and writes the line of its verdict.
-pub fn answer<R: Read + Drop, W: Write>(alloc: Global, reader: R, writer: &mut W) -> io::Result<()>
+/// Reads an input and writes the line of its verdict. Where a read fails, the line is that of what was read before, and the error is answered.
+pub fn answer<R: Read + Drop, W: Write>(mut reader: R, writer: &mut W) -> io::Result<()>
     ensures line { OnOk result (IfSome (R.remaining reader) (λ input.
         Appends (W.contents writer.old) (W.contents writer.new) (line input))) }
 {
-    let input = read_input(alloc, reader)?;
-    write_line(answered(&input), writer)
+    let (verdict, read) = judge_input(&mut reader);
+    write_line(verdict, writer)?;
+    read
 }
