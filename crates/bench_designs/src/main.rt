@@ -19,13 +19,14 @@ const OUTPUT: usize = 32768;
 // The bytes of the greatest workspace: a bit for each sharing of the greatest share bits.
 const WORKSPACE: usize = 131072;
 
-// The verdict on a file, printed. What `main` owns is lent to each function that prints: a struct of it would be no plainer.
-fn judge_file(rt: &impl Print, file: &[u8], workspace: &mut [u8]) -> io::Result<Outcome> {
+// The verdict on a file, printed. What `main` owns is lent to each function that prints: a struct of it would be no plainer. Where nothing can be written the
+// lines are judged all the same, so what printing answers is dropped.
+fn judge_file(rt: &impl Print, file: &[u8], workspace: &mut [u8]) -> Outcome {
     let outcome = checker::judge(file, workspace).outcome;
-    print!(rt; " verdict {}", Verdict::from(outcome))?;
+    let _ = print!(rt; " verdict {}", Verdict::from(outcome));
     match outcome {
-        Ok(_) => Ok(Outcome::Accepted),
-        Err(refusal) => Ok(Outcome::Refused(Reason::from(refusal))),
+        Ok(_) => Outcome::Accepted,
+        Err(refusal) => Outcome::Refused(Reason::from(refusal)),
     }
 }
 
@@ -41,12 +42,12 @@ fn judge_table(
     let mut output = vec![in rt.alloc(); 0u8; OUTPUT]?;
     match producer::produce(m, s, table, placement, &mut output) {
         Ok(length) => {
-            print!(rt; " produce 0 {length}")?;
+            let _ = print!(rt; " produce 0 {length}");
             output.truncate(length);
-            judge_file(rt, &output, workspace)
+            Ok(judge_file(rt, &output, workspace))
         }
         Err(reason) => {
-            print!(rt; " produce {} 0", reason.number())?;
+            let _ = print!(rt; " produce {} 0", reason.number());
             Ok(Outcome::NotProduced(reason))
         }
     }
@@ -58,7 +59,7 @@ fn judge_request(
     workspace: &mut [u8],
 ) -> io::Result<Outcome> {
     match request {
-        Request::File(file) => judge_file(rt, file, workspace),
+        Request::File(file) => Ok(judge_file(rt, file, workspace)),
         Request::Table {
             m,
             s,
@@ -79,12 +80,18 @@ fn main(rt: HostRuntime) -> Result<()> {
     let mut tally = Tally::new(rt.alloc());
     let input = BufReader::new(rt.alloc(), rt.stdin())?;
     for (i, line) in (1..usize::MAX).zip(input.lines(rt.alloc())) {
-        let request = Request::parse(rt.alloc(), &line?)?;
-        print!(rt; "{i}")?;
+        let line = match line {
+            Ok(line) => line,
+            // what can be read is judged: an input that the system stops reading ends there
+            Err(error) if error.raw_os_error().is_some() => break,
+            Err(error) => return Err(error.into()),
+        };
+        let request = Request::parse(rt.alloc(), &line)?;
+        let _ = print!(rt; "{i}");
         let outcome = judge_request(&rt, &request, &mut workspace)?;
-        println!(rt)?;
+        let _ = println!(rt);
         tally.count(outcome)?;
     }
-    println!(rt; "{tally}")?;
+    let _ = println!(rt; "{tally}");
     Ok(())
 }
