@@ -30,7 +30,7 @@ module _ (d : Design) (reason : ℕ) (ws : List ℕ) where
   cleared (inl z) = rw z refl
   cleared (inr h) = pick_false _ _ _ (and_right (leb 1 reason) (leb reason 9) (lt-leb reason 9 h))
 
--- past 8, 9 and 10 the reason is 0, or above 10
+-- past 8, 9 and 10 the reason is 0, or 10 and above
 abbrev Late : Verdict → Type 0
 Late v = (v.reason ≡ 0) ⊎ (10 ≤ v.reason)
 

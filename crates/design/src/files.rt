@@ -20,7 +20,7 @@ pub struct DesignFile<'a> {
     pub file: &'a [u8],
     /// Its numbers m, s and k.
     pub head: Head,
-    /// Where the body of each record starts, by its number; 0 for numbers behind that of the end.
+    /// Where the body of each record starts, by its number. Nothing is asked of the numbers behind that of the end, where `read` answers 0.
     pub starts: [usize; GREATEST_RECORDS],
     pub ghost bytes: { Bytes file.now },
     pub ghost described: { Describes file.now (laid head starts) },

@@ -10,7 +10,7 @@ use records::{RECORD_HEAD_SIZE, Terms};
 pub struct Lists<'a> {
     /// The bytes of the file.
     pub file: &'a [u8],
-    /// One more than there are lists: 2 to 21.
+    /// One more than there are lists: 1 to 21.
     pub starts: &'a [usize],
     pub ghost stands: { Stands file.now starts.now },
 }
