@@ -78,19 +78,27 @@ fn judge_request(
 fn main(rt: HostRuntime) -> Result<()> {
     let mut workspace = vec![in rt.alloc(); 0u8; WORKSPACE]?;
     let mut tally = Tally::new(rt.alloc());
-    let input = BufReader::new(rt.alloc(), rt.stdin())?;
-    for (i, line) in (1..usize::MAX).zip(input.lines(rt.alloc())) {
-        let line = match line {
-            Ok(line) => line,
+    let mut input = BufReader::new(rt.alloc(), rt.stdin())?;
+    let mut line = String::new(rt.alloc());
+    for i in 1..usize::MAX {
+        line.clear();
+        let ended = match input.read_line(&mut line) {
+            Ok(_) => false,
             // what can be read is judged: an input that the system stops reading ends there
-            Err(error) if error.raw_os_error().is_some() => break,
+            Err(error) if error.raw_os_error().is_some() => true,
             Err(error) => return Err(error.into()),
         };
+        if line.is_empty() {
+            break;
+        }
         let request = Request::parse(rt.alloc(), &line)?;
         let _ = print!(rt; "{i}");
         let outcome = judge_request(&rt, &request, &mut workspace)?;
         let _ = println!(rt);
         tally.count(outcome)?;
+        if ended {
+            break;
+        }
     }
     let _ = println!(rt; "{tally}");
     Ok(())
